@@ -1,0 +1,6 @@
+pub mod Closes
+pub mod Fronts
+pub mod Laws
+pub mod Runs
+pub mod Spellings
+pub mod Steps
