@@ -1,3 +1,4 @@
 pub mod Kernel
 pub mod Least
+pub mod Surfaces
 pub mod Tree
