@@ -1,0 +1,17 @@
+pub mod Coherent
+pub mod Computable
+pub mod Faults
+pub mod Intervals
+pub mod Kinds
+pub mod Laws
+pub mod React
+pub mod Resolve
+pub mod Runs
+pub mod Steps
+pub mod Terms
+pub mod Tick
+pub mod Typed
+pub mod Value
+pub mod Values
+pub mod Vars
+pub mod Writes

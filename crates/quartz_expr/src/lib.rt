@@ -1,0 +1,23 @@
+//! The meaning of programs: values, faults, and how a term reacts.
+#![tactic(auto)]
+
+mod act;
+mod env;
+mod evaluate;
+mod fault;
+mod kind;
+mod laws;
+
+pub use act::{Act, Kept};
+pub use env::Env;
+pub use evaluate::{bad, eval};
+pub use fault::lesser_of;
+pub use kind::{ExprKind, kind_of};
+pub use laws::{
+    coherence_is_soundness, conflicts_are_differences, delayed_abort_starts_as_its_body,
+    not_instant_stays, reaction_is_one, runs_look_back, sequence_acts_in_order,
+    statements_are_fresh, strong_preemption_does_nothing, tick_of_fresh_term,
+};
+
+#[cfg(test)]
+mod tests;
