@@ -1,0 +1,4 @@
+pub mod WeightLemmas
+pub mod DivisionLemmas
+pub mod GreedyLemmas
+pub mod EvidenceLemmas
