@@ -1,5 +1,5 @@
 -- What a source gives, what a sink takes and what a shelf has.
-use Rattle.std.specs.Prelude.{◌≡◌, ℕ, ◌+◌, ◌-◌, ◌^◌, ◌<◌, ◌≤◌, ◌⊎◌, ◌↔◌, List, [], ◌++◌, length, take, drop, min, Option, Some, None, IsNone}
+use Rattle.std.specs.Prelude.{◌≡◌, ℕ, ◌+◌, ◌-◌, ◌^◌, ◌<◌, ◌≤◌, ◌⊎◌, ◌↔◌, List, [], ◌++◌, length, take, drop, min, Option, Some, None}
 
 -- the last value of a count
 abbrev pub greatest_count : ℕ

@@ -1,4 +1,4 @@
-use Rattle.std.proofs.Common.{arith, rules}
+use Rattle.std.proofs.Common.{rules}
 use Rattle.std.proofs.lemmas.List.{take_rest}
 use Rattle.outside.proofs.GainsLemmas.{gains_more}
 use Rattle.outside.proofs.sink.put_whole.Goals as goal
