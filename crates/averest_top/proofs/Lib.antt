@@ -1,0 +1,11 @@
+pub mod LineLemmas
+pub mod LoopLemmas
+pub mod PromiseLemmas
+pub mod ReactLemmas
+pub mod ReadLemmas
+pub mod ReadingLemmas
+pub mod StepLemmas
+pub mod StoryLemmas
+pub mod ValueLemmas
+pub mod WireLemmas
+pub mod WriteLemmas

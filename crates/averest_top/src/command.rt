@@ -1,0 +1,182 @@
+ghost use Rattle.std.specs.Prelude.{◌≡◌, ◌≢◌, ◌≤◌, ◌⊎◌, List, ℕ, Some, None, IfOk, length};
+ghost use Rattle.quartz_tree.specs.declared.place.Place.{Place};
+ghost use Rattle.outside.specs.Bytes.{Rose, Gains, Unfetched};
+ghost use Rattle.outside.specs.Words.{meant, run_of};
+ghost use Rattle.outside.specs.Report.{report_line};
+ghost use Rattle.averest_top.specs.Combinational.{Wiring};
+ghost use Rattle.averest_top.specs.Reading.{IsBuilt, Refuses};
+ghost use Rattle.averest_top.specs.Promise.{ComesWith, ComesBefore, HasText, LacksText, IsExcused, Outcome, OfText, refusal_status};
+
+use crate::reading::{TextFault, read_text};
+use crate::run::run_logic;
+use outside::{Command, Gate, Shelf, Sink, Source, Status, WordsFault, put_report, read_words};
+use quartz_tree::{Name, NoMemory};
+use std::alloc::Global;
+use std::thread::Threads;
+
+// A text has at most one byte less.
+const TEXT_ROOM: usize = 65537;
+
+// The status of a text that is not built.
+fn status_of_fault(fault: TextFault) -> Status
+    ensures { result ≡ refusal_status fault }
+{
+    match fault {
+        TextFault::Refused { rule, place } => Status::Refused { rule, place },
+        TextFault::NoMemory => Status::NoMemory,
+    }
+}
+
+// Runs a text on a trace.
+fn run_text<S: Source, O: Sink>(alloc: Global, text: &[u8], input: &mut S, out: &mut O) -> Status
+    ensures input_counts { S.faults input.old ≤ S.faults input.new }
+    ensures out_counts { O.faults out.old ≤ O.faults out.new }
+    ensures no_usage { result ≢ Status.Usage }
+    ensures available { result ≢ Status.ModuleUnavailable }
+    ensures untouched { ComesBefore result → (input.new ≡ input.old) × (out.new ≡ out.old) }
+    ensures of_text { OfText text.now (S.left input.old) (S.left input.new) (O.stands out.old) (O.stands out.new) ⊥ (Rose (S.faults input.old) (S.faults input.new)) (Rose (O.faults out.old) (O.faults out.new)) result }
+{
+    match read_text(alloc, text) {
+        Ok(logic) => match run_logic(alloc, &logic, input, out) {
+            Ok(status) => status,
+            Err(_) => Status::NoMemory,
+        },
+        Err(fault) => status_of_fault(fault),
+    }
+}
+
+// The room for a text, and for one byte more.
+fn text_room(alloc: Global) -> Result<Vec<u8>, NoMemory>
+    ensures { IfOk result (λ room. length room.items ≡ 65537) }
+{
+    Ok(vec![in alloc; 0; TEXT_ROOM]?)
+}
+
+// Runs the module of that name, whose text is fetched into the room.
+fn run_fetched<F: Shelf, S: Source, O: Sink>(
+    alloc: Global,
+    name: &Name,
+    room: &mut [u8],
+    shelf: &mut F,
+    input: &mut S,
+    out: &mut O,
+) -> Status
+    requires { length room.old ≡ 65537 }
+    ensures shelf_counts { F.faults shelf.old ≤ F.faults shelf.new }
+    ensures input_counts { S.faults input.old ≤ S.faults input.new }
+    ensures out_counts { O.faults out.old ≤ O.faults out.new }
+    ensures no_usage { result ≢ Status.Usage }
+    ensures unavailable { result ≡ Status.ModuleUnavailable → Unfetched (F.texts shelf.old) name.now (F.faults shelf.old) (F.faults shelf.new) }
+    ensures absent { LacksText (F.texts shelf.old) name.now → result ≡ Status.ModuleUnavailable }
+    ensures untouched { ComesBefore result → (input.new ≡ input.old) × (out.new ≡ out.old) }
+    ensures of_text { (text : List ℕ) → HasText (F.texts shelf.old) name.now text →
+        OfText text (S.left input.old) (S.left input.new) (O.stands out.old) (O.stands out.new)
+        (Rose (F.faults shelf.old) (F.faults shelf.new)) (Rose (S.faults input.old) (S.faults input.new)) (Rose (O.faults out.old) (O.faults out.new)) result }
+{
+    match shelf.fetch(name.text(), room) {
+        Ok(count) => run_text(alloc, &room[..count], input, out),
+        Err(_) => Status::ModuleUnavailable,
+    }
+}
+
+// Runs the module of that name.
+fn run_module<F: Shelf, S: Source, O: Sink>(
+    alloc: Global,
+    name: &Name,
+    shelf: &mut F,
+    input: &mut S,
+    out: &mut O,
+) -> Status
+    ensures shelf_counts { F.faults shelf.old ≤ F.faults shelf.new }
+    ensures input_counts { S.faults input.old ≤ S.faults input.new }
+    ensures out_counts { O.faults out.old ≤ O.faults out.new }
+    ensures no_usage { result ≢ Status.Usage }
+    ensures unavailable { result ≡ Status.ModuleUnavailable → Unfetched (F.texts shelf.old) name.now (F.faults shelf.old) (F.faults shelf.new) }
+    ensures absent { LacksText (F.texts shelf.old) name.now → (result ≡ Status.ModuleUnavailable) ⊎ (result ≡ Status.NoMemory) }
+    ensures untouched { ComesBefore result → (input.new ≡ input.old) × (out.new ≡ out.old) }
+    ensures of_text { (text : List ℕ) → HasText (F.texts shelf.old) name.now text →
+        OfText text (S.left input.old) (S.left input.new) (O.stands out.old) (O.stands out.new)
+        (Rose (F.faults shelf.old) (F.faults shelf.new)) (Rose (S.faults input.old) (S.faults input.new)) (Rose (O.faults out.old) (O.faults out.new)) result }
+{
+    match text_room(alloc) {
+        Ok(mut room) => run_fetched(alloc, name, &mut room, shelf, input, out),
+        Err(_) => Status::NoMemory,
+    }
+}
+
+// Does what the words ask for.
+fn obey<F: Shelf, S: Source, O: Sink>(
+    alloc: Global,
+    words: &[Name],
+    shelf: &mut F,
+    input: &mut S,
+    out: &mut O,
+) -> Status
+    ensures shelf_counts { F.faults shelf.old ≤ F.faults shelf.new }
+    ensures input_counts { S.faults input.old ≤ S.faults input.new }
+    ensures out_counts { O.faults out.old ≤ O.faults out.new }
+    ensures usage { ComesWith result Status.Usage (meant words.now ≡ None) }
+    ensures unavailable { (name : List ℕ) → meant words.now ≡ Some (run_of name) → result ≡ Status.ModuleUnavailable → Unfetched (F.texts shelf.old) name (F.faults shelf.old) (F.faults shelf.new) }
+    ensures absent { (name : List ℕ) → meant words.now ≡ Some (run_of name) → LacksText (F.texts shelf.old) name → (result ≡ Status.ModuleUnavailable) ⊎ (result ≡ Status.NoMemory) }
+    ensures untouched { ComesBefore result → (input.new ≡ input.old) × (out.new ≡ out.old) }
+    ensures of_text { (name text : List ℕ) → meant words.now ≡ Some (run_of name) → HasText (F.texts shelf.old) name text →
+        OfText text (S.left input.old) (S.left input.new) (O.stands out.old) (O.stands out.new)
+        (Rose (F.faults shelf.old) (F.faults shelf.new)) (Rose (S.faults input.old) (S.faults input.new)) (Rose (O.faults out.old) (O.faults out.new)) result }
+{
+    match read_words(alloc, words) {
+        Ok(Command::Run { module, .. }) => run_module(alloc, &module, shelf, input, out),
+        Err(WordsFault::Usage) => Status::Usage,
+        Err(WordsFault::NoMemory) => Status::NoMemory,
+    }
+}
+
+/// Does what the words ask for: reads a module of the shelf and a trace of `input`, writes to `out`,
+/// and reports how it ended. A failing report changes no status.
+pub fn averest<
+    R: Threads + Sync,
+    F: Shelf,
+    S: Source + Send,
+    O: Sink + Send,
+    E: Sink,
+    G: Gate + Sync,
+>(
+    _rt: &R,
+    alloc: Global,
+    words: &[Name],
+    shelf: &mut F,
+    input: &mut S,
+    out: &mut O,
+    report: &mut E,
+    _gate: &G,
+) -> Status
+    ensures shelf_counts { F.faults shelf.old ≤ F.faults shelf.new }
+    ensures input_counts { S.faults input.old ≤ S.faults input.new }
+    ensures out_counts { O.faults out.old ≤ O.faults out.new }
+    ensures report_counts { E.faults report.old ≤ E.faults report.new }
+
+    // The words are no command.
+    ensures usage { ComesWith result Status.Usage (meant words.now ≡ None) }
+
+    // There is no such text, or the shelf failed.
+    ensures unavailable { (name : List ℕ) → meant words.now ≡ Some (run_of name) → result ≡ Status.ModuleUnavailable → Unfetched (F.texts shelf.old) name (F.faults shelf.old) (F.faults shelf.new) }
+    ensures absent { (name : List ℕ) → meant words.now ≡ Some (run_of name) → LacksText (F.texts shelf.old) name → (result ≡ Status.ModuleUnavailable) ⊎ (result ≡ Status.NoMemory) }
+
+    // The text is refused exactly by its rule.
+    ensures refused { (name text : List ℕ) → meant words.now ≡ Some (run_of name) → HasText (F.texts shelf.old) name text → (r : ℕ) (p : Place) →
+        (result ≡ Status.Refused r p → Refuses text r p)
+        × (Refuses text r p → (result ≡ Status.Refused r p) ⊎ IsExcused result (Rose (F.faults shelf.old) (F.faults shelf.new))) }
+
+    // A text that is built tells its story over the trace.
+    ensures story { (name text : List ℕ) → meant words.now ≡ Some (run_of name) → HasText (F.texts shelf.old) name text →
+        (w : Wiring) (trace : List ℕ) → IsBuilt text w → S.left input.old ≡ Some trace →
+        Outcome w trace (O.stands out.old) (O.stands out.new) (S.left input.new)
+        (Rose (F.faults shelf.old) (F.faults shelf.new)) (Rose (S.faults input.old) (S.faults input.new)) (Rose (O.faults out.old) (O.faults out.new)) result }
+
+    // Before a run nothing is taken and nothing put.
+    ensures untouched { ComesBefore result → (input.new ≡ input.old) × (out.new ≡ out.old) }
+    ensures reported { ¬ (Rose (E.faults report.old) (E.faults report.new)) → Gains (E.stands report.old) (E.stands report.new) (report_line result) }
+{
+    let status = obey(alloc, words, shelf, input, out);
+    let _ = put_report(&status, report);
+    status
+}
