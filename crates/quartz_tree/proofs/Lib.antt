@@ -1,1 +1,2 @@
+pub mod ExpandLemmas
 pub mod SurfaceLemmas

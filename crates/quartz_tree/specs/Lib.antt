@@ -1,3 +1,4 @@
+pub mod Expand
 pub mod Kernel
 pub mod Least
 pub mod Surfaces

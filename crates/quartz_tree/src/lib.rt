@@ -1,7 +1,9 @@
 //! Syntax trees of Quartz: names, places, types, expressions, statements as written and kernel statements.
 #![tactic(auto)]
 
+mod copy;
 mod declare;
+mod derived;
 mod expr;
 mod fault;
 mod memory;
@@ -10,7 +12,9 @@ mod place;
 mod stmt;
 mod surface;
 
+pub use copy::{Copied, copied_items};
 pub use declare::{Base, Decl, Flow, Init, Start, Storage, Ty, Var};
+pub use derived::expand;
 pub use expr::{Binary, Expr, Unary};
 pub use fault::{Fault, Kind};
 pub use memory::NoMemory;
@@ -18,3 +22,6 @@ pub use name::Name;
 pub use place::Place;
 pub use stmt::Stmt;
 pub use surface::{Arg, Module, Surface, Target};
+
+#[cfg(test)]
+mod tests;
