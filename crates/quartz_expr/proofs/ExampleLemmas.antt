@@ -203,9 +203,9 @@ scope_reacts = of_scope env 3 None truth_write (pos 1 ∷ []) _ refl (of_write _
 scope_acts : given_one.acts ≡ []
 scope_acts = refl
 
-scope_met : given_one.met ≡ record { given = pos 1; wanted = pos 1 } ∷ []
+scope_met : given_one.met ≡ record { var = 3; given = pos 1; wanted = pos 1 } ∷ []
 scope_met = refl
 
 -- with the value 0 the wanted one differs
-scope_differs : (scoped four 3 None truth_write (pos 0 ∷ []) (ends (record { var = 3; element = 0; value = pos 1; delayed = false } ∷ []) [] truth_write)).met ≡ record { given = pos 0; wanted = pos 1 } ∷ []
+scope_differs : (scoped four 3 None truth_write (pos 0 ∷ []) (ends (record { var = 3; element = 0; value = pos 1; delayed = false } ∷ []) [] truth_write)).met ≡ record { var = 3; given = pos 0; wanted = pos 1 } ∷ []
 scope_differs = refl

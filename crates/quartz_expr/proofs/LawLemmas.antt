@@ -1,5 +1,5 @@
 -- Proofs of the laws of the semantics.
-use Rattle.std.proofs.Common.{◌≡◌, ◌⊎◌, inl, inr, ℕ, zero, suc, ◌+◌, ℤ, pos, negsuc, Bool, true, false, ◌&&◌, ◌||◌, List, [], ◌∷◌, ◌++◌, take, length, Option, Some, None, refl, sym, ap, ap₂, ◌∙◌, subst, arith}
+use Rattle.std.proofs.Common.{nat_lt, if◌then◌else◌, ◌≡◌, ◌⊎◌, inl, inr, ℕ, zero, suc, ◌+◌, ℤ, pos, negsuc, Bool, true, false, ◌&&◌, ◌||◌, List, [], ◌∷◌, ◌++◌, take, length, Option, Some, None, refl, sym, ap, ap₂, ◌∙◌, subst, arith}
 use Rattle.std.proofs.lemmas.Bool.Decides.{nat_tests}
 use Rattle.std.specs.Prelude.{not, slice_set, option_to_list, unwrap_or}
 use Rattle.quartz_tree.specs.declared.declare.Storage.{Storage}
@@ -144,12 +144,24 @@ mutual
 
 -- ---- runs
 
+counted_down : (n k : ℕ) → nat_lt (suc n) (suc k) ≡ nat_lt n k
+counted_down n k = grind (arith, nat_tests)
+
+ended_before : (n k : ℕ) → nat_lt n zero ≡ false
+ended_before n k = grind (arith, nat_tests)
+
+counted_none : (k : ℕ) → nat_lt 0 (suc k) ≡ true
+counted_none k = grind (arith, nat_tests)
+
 pub runs_cut : (vs : Vars) (s : State) (ins outs : List (List (List ℤ))) (end : Option Fault) (k : ℕ) → RunsFrom vs s ins outs end
-    → (cut : Option Fault) × RunsFrom vs s (take k ins) (take k outs) cut
-runs_cut vs s _ _ _ zero _ = (None, of_end s)
-runs_cut vs s _ _ _ (suc k) (of_end _) = (None, of_end s)
-runs_cut vs s _ _ _ (suc k) (of_step _ i o t is os end m r) = let c = runs_cut vs t is os end k r in (c.0, of_step s i o t (take k is) (take k os) c.0 m c.1)
-runs_cut vs s _ _ _ (suc k) (of_fault _ i o t fs f is m l) = (Some f, of_fault s i o t fs f (take k is) m l)
+    → RunsFrom vs s (take k ins) (take k outs) (if nat_lt (length outs) k then end else None)
+runs_cut vs s ins outs end zero _ = subst (λ (b : Bool). RunsFrom vs s [] [] (if b then end else None)) (sym (ended_before (length outs) 0)) (of_end s)
+runs_cut vs s _ _ _ (suc k) (of_end _) = subst (λ (b : Bool). RunsFrom vs s [] [] (if b then None else None)) (sym (counted_none k)) (of_end s)
+runs_cut vs s _ _ _ (suc k) (of_step _ i o t is os end m r) =
+    subst (λ (b : Bool). RunsFrom vs s (i ∷ take k is) (o ∷ take k os) (if b then end else None)) (sym (counted_down (length os) k))
+    (of_step s i o t (take k is) (take k os) (if nat_lt (length os) k then end else None) m (runs_cut vs t is os end k r))
+runs_cut vs s _ _ _ (suc k) (of_fault _ i o t fs f is m l) =
+    subst (λ (b : Bool). RunsFrom vs s (i ∷ take k is) [] (if b then Some f else None)) (sym (counted_none k)) (of_fault s i o t fs f (take k is) m l)
 
 -- ---- conflicts
 
@@ -171,10 +183,10 @@ givens_append : (a b : List Met) (xs : List ℤ) → givens (a ++ b) ++ xs ≡ g
 givens_append [] b xs = refl
 givens_append (m ∷ a) b xs = ap (λ l. m.given ∷ l) (givens_append a b xs)
 
-givens_meetings : (v w : List ℤ) → length v ≡ length w → givens (meetings v w) ≡ v
-givens_meetings [] w e = refl
-givens_meetings (z ∷ v) [] e = absurd (omega arith)
-givens_meetings (z ∷ v) (y ∷ w) e = ap (λ l. z ∷ l) (givens_meetings v w (omega arith))
+givens_meetings : (x : ℕ) (v w : List ℤ) → length v ≡ length w → givens (meetings x v w) ≡ v
+givens_meetings x [] w e = refl
+givens_meetings x (z ∷ v) [] e = absurd (omega arith)
+givens_meetings x (z ∷ v) (y ∷ w) e = ap (λ l. z ∷ l) (givens_meetings x v w (omega arith))
 
 resolved_length : (s : Storage) (x : ℕ) (ws : List Act) (n : ℕ) (ks : Store) → length (values_of (resolved_store s x ws n ks)) ≡ length ks
 resolved_length s x ws n [] = refl
@@ -253,10 +265,10 @@ mutual
   same vs env _ _ (of_scope _ x s t v q l k) _ (of_scope _ _ _ _ v' q' l' k') xs ys e =
       let w = λ (r : Reaction). values_of (resolved_store (storage_of vs x) x r.acts 0 (store_of vs x s)) in
       let n = λ (r : Reaction). resolved_length (storage_of vs x) x r.acts 0 (store_of vs x s) in
-      let a : givens (meetings v (w q)) ≡ v = givens_meetings v (w q) (l ∙ sym (n q)) in
-      let b : givens (meetings v' (w q')) ≡ v' = givens_meetings v' (w q') (l' ∙ sym (n q')) in
+      let a : givens (meetings x v (w q)) ≡ v = givens_meetings x v (w q) (l ∙ sym (n q)) in
+      let b : givens (meetings x v' (w q')) ≡ v' = givens_meetings x v' (w q') (l' ∙ sym (n q')) in
       let f : v ++ (givens q.met ++ xs) ≡ v' ++ (givens q'.met ++ ys) =
-      ap (λ z. z ++ (givens q.met ++ xs)) (sym a) ∙ sym (givens_append (meetings v (w q)) q.met xs) ∙ e ∙ givens_append (meetings v' (w q')) q'.met ys ∙ ap (λ z. z ++ (givens q'.met ++ ys)) b in
+      ap (λ z. z ++ (givens q.met ++ xs)) (sym a) ∙ sym (givens_append (meetings x v (w q)) q.met xs) ∙ e ∙ givens_append (meetings x v' (w q')) q'.met ys ∙ ap (λ z. z ++ (givens q'.met ++ ys)) b in
       let g = same_front v v' (givens q.met ++ xs) (givens q'.met ++ ys) (l ∙ sym l') f in
       let h = same vs (slice_set env x v) t q k q' (subst (λ z. React vs (slice_set env x z) t q') (sym g.0) k') xs ys g.1 in
       (ap₂ (scoped vs x s t) g.0 h.0, h.1)
@@ -267,5 +279,6 @@ mutual
       let s = split q.met q'.met p.met p'.met xs ys (q ≡ q') (p ≡ p') e (same vs env t q k q' k') (λ z. same_each vs env ts p h p' h') in
       (ap₂ beside s.0 s.1, s.2)
 
-pub reaction_one : (vs : Vars) (env : Values) (t : Term) (q r : Reaction) → React vs env t q → React vs env t r → givens q.met ≡ givens r.met → q ≡ r
-reaction_one vs env t q r k h e = (same vs env t q k r h [] [] (ap (λ l. l ++ []) e)).0
+pub reaction_one : (vs : Vars) (env : Values) (t : Term) (q r : Reaction) (xs ys : List ℤ) → React vs env t q → React vs env t r
+    → givens q.met ++ xs ≡ givens r.met ++ ys → (q ≡ r) × (xs ≡ ys)
+reaction_one vs env t q r xs ys k h e = same vs env t q k r h xs ys e

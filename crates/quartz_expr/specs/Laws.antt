@@ -1,5 +1,5 @@
 -- Laws of the semantics, in its own words.
-use Rattle.std.specs.Prelude.{◌≡◌, ◌⊎◌, ◌↔◌, ℕ, ℤ, Bool, true, false, List, [], ◌++◌, take, length, Option, option_to_list}
+use Rattle.std.specs.Prelude.{◌≡◌, ◌⊎◌, ◌↔◌, ℕ, ℤ, Bool, true, false, nat_lt, if◌then◌else◌, List, [], ◌++◌, take, length, Option, None, option_to_list}
 use Rattle.quartz_tree.specs.declared.declare.Storage.{Storage}
 use Rattle.quartz_tree.specs.declared.fault.Fault.{Fault}
 use Rattle.quartz_tree.specs.Tree.{Tree}
@@ -17,9 +17,10 @@ use Rattle.quartz_expr.specs.Steps.{State, Macro, outputs_of}
 use Rattle.quartz_expr.specs.Runs.{Runs}
 use Rattle.quartz_expr.specs.Coherent.{IsCoherent}
 
--- a term, an environment and the values given to the scopes have at most one reaction
+-- a term, an environment and a list of values for the scopes have at most one reaction, which uses a front of the list
 abbrev pub ReactionIsOne : Type 0
-ReactionIsOne = (vs : Vars) (env : Values) (t : Term) (q r : Reaction) → React vs env t q → React vs env t r → givens q.met ≡ givens r.met → q ≡ r
+ReactionIsOne = (vs : Vars) (env : Values) (t : Term) (q r : Reaction) (xs ys : List ℤ) → React vs env t q → React vs env t r
+    → givens q.met ++ xs ≡ givens r.met ++ ys → (q ≡ r) × (xs ≡ ys)
 
 -- a term that may not be instant doesn't end in its first step
 abbrev pub NotInstantStays : Type 0
@@ -54,10 +55,11 @@ abbrev pub StrongSuspensionDoesNothing : Type 0
 StrongSuspensionDoesNothing = (vs : Vars) (env : Values) (t : Term) (c : Tree ℕ) (r : Reaction) → is_zero (value vs env c) ≡ false → React vs env (suspend false true t c) r
     → (r.ended ≡ false) × (r.residual ≡ suspend false true (tick vs t) c) × (r.acts ≡ []) × (r.met ≡ []) × (r.faults ≡ faults vs env c)
 
--- a run cut after k steps is a run over the first k inputs: what comes later plays no part
+-- a run cut after k steps is a run over the first k inputs, with the same fault where that comes in these steps: what
+-- comes later plays no part
 abbrev pub RunsLookBack : Type 0
 RunsLookBack = (vs : Vars) (body : Kernel) (ins outs : List (List (List ℤ))) (end : Option Fault) (k : ℕ) → Runs vs body ins outs end
-    → (cut : Option Fault) × Runs vs body (take k ins) (take k outs) cut
+    → Runs vs body (take k ins) (take k outs) (if nat_lt (length outs) k then end else None)
 
 -- at the resolved value a now-value differs exactly where two of the now-values and the pending value differ
 abbrev pub ConflictsAreDifferences : Type 0

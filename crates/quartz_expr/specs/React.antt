@@ -13,14 +13,16 @@ use Rattle.quartz_expr.specs.Writes.{write_acts, write_faults}
 use Rattle.quartz_expr.specs.Resolve.{resolved_store, given_store, store_conflicts, values_of, fresh_store, others}
 use Rattle.quartz_expr.specs.Tick.{tick}
 
--- an element of a scope that was met: the value that was given to it, and the one that its store
--- and the body's writes resolve to
+-- an element of a scope that was met: the scope's variable, the value that was given to the element,
+-- and the one that its store and the body's writes resolve to
 pub record Met : Type 0 where
+  pub var : ℕ
   pub given : ℤ
   pub wanted : ℤ
 
 -- what a term does in a macro step: what is left of it, the term as a weak suspension holds it, its
--- acts in order, the faults in the order of evaluation, the scopes met in order, and whether it ended
+-- acts in order, the faults in the order of evaluation, a scope's conflicts behind its body's faults,
+-- the scopes met in order, and whether it ended
 pub record Reaction : Type 0 where
   pub residual : Term
   pub held : Term
@@ -98,11 +100,11 @@ abbrev pub store_of : Vars → (var : ℕ) → Option Store → Store
 store_of vs x (Some s) = s
 store_of vs x None = fresh_store vs x
 
--- the values given to the elements, each with the one that is wanted
-abbrev pub meetings : List ℤ → List ℤ → List Met
-meetings [] ws = []
-meetings (v ∷ vs) [] = []
-meetings (v ∷ vs) (w ∷ ws) = record { given = v; wanted = w } ∷ meetings vs ws
+-- the values given to the elements of a scope's variable, each with the one that is wanted
+abbrev pub meetings : (var : ℕ) → List ℤ → List ℤ → List Met
+meetings x [] ws = []
+meetings x (v ∷ vs) [] = []
+meetings x (v ∷ vs) (w ∷ ws) = record { var = x; given = v; wanted = w } ∷ meetings x vs ws
 
 -- a scope that had a store is held with the new one, and a fresh one is held as it is
 abbrev pub held_scope : (var : ℕ) → Option Store → Term → (new : Store) → (held : Term) → Term
@@ -118,7 +120,7 @@ scoped vs x s t v q =
       held = held_scope x s t new q.held;
       acts = others x q.acts;
       faults = q.faults ++ store_conflicts (declared_at vs x) x q.acts 0 v;
-      met = meetings v (values_of (resolved_store (storage_of vs x) x q.acts 0 (store_of vs x s))) ++ q.met;
+      met = meetings x v (values_of (resolved_store (storage_of vs x) x q.acts 0 (store_of vs x s))) ++ q.met;
       ended = q.ended;
     }
 
