@@ -1,7 +1,8 @@
 -- Gains one after another.
-use Rattle.std.proofs.Common.{ℕ, ◌+◌, List, ◌++◌, take, drop, sym, ap, ◌∙◌, subst, append_assoc}
+use Rattle.std.proofs.Common.{Result, Ok, Err, OnErr, ◌≡◌, ◌<◌, ℕ, zero, suc, ◌+◌, List, [], ◌∷◌, ◌++◌, length, take, drop, refl, sym, ap, ◌∙◌, subst, append_assoc, arith}
 use Rattle.std.proofs.Math.Seq.{take-add}
-use Rattle.outside.specs.Bytes.{Gains, StillStands}
+use Rattle.outside.specs.Bytes.{Gains, GainsBegun, StillStands}
+use Rattle.outside.specs.declared.source.Failed.{Failed}
 
 -- a prefix and then some of what follows it
 pub gains_more : (before mid after : List ℕ → Type 0) (piece : List ℕ) (at n : ℕ) → Gains before mid (take at piece) → Gains mid after (take n (drop at piece)) → Gains before after (take (at + n) piece)
@@ -15,3 +16,44 @@ gains_both before mid after xs ys g k bs h = subst after (append_assoc bs xs ys)
 -- a failure takes nothing
 pub gains_still : (before mid after : List ℕ → Type 0) (xs : List ℕ) → Gains before mid xs → StillStands mid after → Gains before after xs
 gains_still before mid after xs g s bs h = s (bs ++ xs) (g bs h)
+
+take_first : (n : ℕ) (xs ys : List ℕ) → n < length xs → take n (xs ++ ys) ≡ take n xs
+take_first n [] ys h = absurd (omega (arith, h))
+take_first zero (x ∷ xs) ys h = refl
+take_first (suc n) (x ∷ xs) ys h = ap (λ (l : List ℕ). x ∷ l) (take_first n xs ys (omega (arith, h)))
+
+shorter_first : (n : ℕ) (xs ys : List ℕ) → n < length xs → n < length (xs ++ ys)
+shorter_first n [] ys h = absurd (omega (arith, h))
+shorter_first zero (x ∷ xs) ys h = omega arith
+shorter_first (suc n) (x ∷ xs) ys h = let k : n < length (xs ++ ys) = shorter_first n xs ys (omega (arith, h)) in omega (arith, k)
+
+take_behind : (n : ℕ) (xs ys : List ℕ) → take (length xs + n) (xs ++ ys) ≡ xs ++ take n ys
+take_behind n [] ys =
+    let e : 0 + n ≡ n = omega arith in
+    ap (λ (m : ℕ). take m ys) e
+take_behind n (x ∷ xs) ys =
+    let e : suc (length xs) + n ≡ suc (length xs + n) = omega arith in
+    ap (λ (m : ℕ). take m (x ∷ (xs ++ ys))) e ∙ ap (λ (l : List ℕ). x ∷ l) (take_behind n xs ys)
+
+shorter_behind : (n : ℕ) (xs ys : List ℕ) → n < length ys → length xs + n < length (xs ++ ys)
+shorter_behind n [] ys h = omega (arith, h)
+shorter_behind n (x ∷ xs) ys h = let k : length xs + n < length (xs ++ ys) = shorter_behind n xs ys h in omega (arith, k)
+
+-- a piece that was not put whole, with more to come
+pub begun_first : (before after : List ℕ → Type 0) (xs ys : List ℕ) → GainsBegun before after xs → GainsBegun before after (xs ++ ys)
+begun_first before after xs ys (n, h, g) = (n, shorter_first n xs ys h, subst (Gains before after) (sym (take_first n xs ys h)) g)
+
+-- and one behind a piece that was
+pub begun_next : (before mid after : List ℕ → Type 0) (xs ys : List ℕ) → Gains before mid xs → GainsBegun mid after ys → GainsBegun before after (xs ++ ys)
+begun_next before mid after xs ys g (n, h, k) =
+    (length xs + n, shorter_behind n xs ys h, subst (Gains before after) (sym (take_behind n xs ys)) (gains_both before mid after xs (take n ys) g k))
+
+-- what holds anyway holds where there is an error
+pub sure : (r : Result (Unit {0}) Failed) (P : Type 0) → P → OnErr r P
+sure (Ok _) P h = tt
+sure (Err _) P h = h
+
+-- the same where an answer came that may be a failure
+pub on_begun : (r : Result (Unit {0}) Failed) (before mid after : List ℕ → Type 0) (xs ys : List ℕ) → Gains before mid xs → OnErr r (GainsBegun mid after ys) → OnErr r (GainsBegun before after (xs ++ ys))
+on_begun (Ok _) before mid after xs ys g h = tt
+on_begun (Err _) before mid after xs ys g h = begun_next before mid after xs ys g h

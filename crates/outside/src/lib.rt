@@ -11,6 +11,8 @@ mod shelf;
 mod sink;
 mod source;
 mod status;
+#[cfg(test)]
+mod tests;
 mod words;
 
 pub use adapters::{DirShelf, StdSink, StdSource};

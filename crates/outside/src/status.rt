@@ -1,6 +1,6 @@
 ghost use Rattle.std.specs.Prelude.{◌≡◌, ◌≤◌, ◌++◌, decimal, codes, OnOk, OnErr};
-ghost use Rattle.outside.specs.Bytes.{Rose, Gains};
-ghost use Rattle.outside.specs.Report.{number_of, line_end, place_text, kind_text as kind_codes, refusal_text, fault_text, report_line};
+ghost use Rattle.outside.specs.Bytes.{Rose, Gains, GainsBegun};
+ghost use Rattle.outside.specs.Report.{number_of, line_end, place_text, kind_text as kind_codes, report_line};
 
 use crate::sink::{Sink, put_whole};
 use crate::source::Failed;
@@ -59,16 +59,19 @@ fn put_number<E: Sink>(report: &mut E, number: u32) -> Result<(), Failed>
     ensures never_falls { E.faults report.old ≤ E.faults report.new }
     ensures gained { OnOk result (Gains (E.stands report.old) (E.stands report.new) (decimal number)) }
     ensures rose { OnErr result (Rose (E.faults report.old) (E.faults report.new)) }
+    ensures begun { OnErr result (GainsBegun (E.stands report.old) (E.stands report.new) (decimal number)) }
 {
     let mut digits = Buffer::new();
     put_whole(report, digits.format(number).as_bytes())
 }
 
 // What a report says of a place: its line, a colon and its column, and the line's end.
+#[tactic(auto, using(crate::proofs::GainsLemmas::begun_first))]
 fn put_place<E: Sink>(report: &mut E, place: Place) -> Result<(), Failed>
     ensures never_falls { E.faults report.old ≤ E.faults report.new }
     ensures gained { OnOk result (Gains (E.stands report.old) (E.stands report.new) (place_text place)) }
     ensures rose { OnErr result (Rose (E.faults report.old) (E.faults report.new)) }
+    ensures begun { OnErr result (GainsBegun (E.stands report.old) (E.stands report.new) (place_text place)) }
 {
     put_number(report, place.line)?;
     put_whole(report, b":")?;
@@ -88,38 +91,55 @@ fn kind_text(kind: Kind) -> &'static [u8]
 }
 
 // A text, a step and the line's end.
+#[tactic(auto, using(crate::proofs::GainsLemmas::begun_first))]
 fn put_step<E: Sink>(report: &mut E, text: &[u8], step: u32) -> Result<(), Failed>
     ensures never_falls { E.faults report.old ≤ E.faults report.new }
     ensures gained { OnOk result (Gains (E.stands report.old) (E.stands report.new) (text.now ++ (decimal step ++ line_end))) }
     ensures rose { OnErr result (Rose (E.faults report.old) (E.faults report.new)) }
+    ensures begun { OnErr result (GainsBegun (E.stands report.old) (E.stands report.new) (text.now ++ (decimal step ++ line_end))) }
 {
     put_whole(report, text)?;
     put_number(report, step)?;
     put_whole(report, b"\n")
 }
 
-fn put_refusal<E: Sink>(report: &mut E, rule: u32, place: Place) -> Result<(), Failed>
+// A text, a number, another text and a place.
+#[tactic(auto, using(crate::proofs::GainsLemmas::begun_first))]
+fn put_number_at<E: Sink>(
+    report: &mut E,
+    text: &[u8],
+    number: u32,
+    between: &[u8],
+    place: Place,
+) -> Result<(), Failed>
     ensures never_falls { E.faults report.old ≤ E.faults report.new }
-    ensures gained { OnOk result (Gains (E.stands report.old) (E.stands report.new) (refusal_text rule place)) }
+    ensures gained { OnOk result (Gains (E.stands report.old) (E.stands report.new) (text.now ++ (decimal number ++ (between.now ++ place_text place)))) }
     ensures rose { OnErr result (Rose (E.faults report.old) (E.faults report.new)) }
+    ensures begun { OnErr result (GainsBegun (E.stands report.old) (E.stands report.new) (text.now ++ (decimal number ++ (between.now ++ place_text place)))) }
 {
-    put_whole(report, b"averest: refused S")?;
-    put_number(report, rule)?;
-    put_whole(report, b" at ")?;
+    put_whole(report, text)?;
+    put_number(report, number)?;
+    put_whole(report, between)?;
     put_place(report, place)
 }
 
-fn put_fault<E: Sink>(report: &mut E, step: u32, kind: Kind, place: Place) -> Result<(), Failed>
+// A text, the name of a kind of fault, its step and its place.
+#[tactic(auto, using(crate::proofs::GainsLemmas::begun_first))]
+fn put_fault<E: Sink>(
+    report: &mut E,
+    text: &[u8],
+    kind: Kind,
+    step: u32,
+    place: Place,
+) -> Result<(), Failed>
     ensures never_falls { E.faults report.old ≤ E.faults report.new }
-    ensures gained { OnOk result (Gains (E.stands report.old) (E.stands report.new) (fault_text step kind place)) }
+    ensures gained { OnOk result (Gains (E.stands report.old) (E.stands report.new) (text.now ++ (kind_codes kind ++ (codes " at step " ++ (decimal step ++ (codes ", " ++ place_text place)))))) }
     ensures rose { OnErr result (Rose (E.faults report.old) (E.faults report.new)) }
+    ensures begun { OnErr result (GainsBegun (E.stands report.old) (E.stands report.new) (text.now ++ (kind_codes kind ++ (codes " at step " ++ (decimal step ++ (codes ", " ++ place_text place)))))) }
 {
-    put_whole(report, b"averest: ")?;
+    put_whole(report, text)?;
     put_whole(report, kind_text(kind))?;
-    put_whole(report, b" at step ")?;
-    put_number(report, step)?;
-    put_whole(report, b", ")?;
-    put_place(report, place)
+    put_number_at(report, b" at step ", step, b", ", place)
 }
 
 /// Puts the report line of a status, which is empty for `Ok`.
@@ -127,14 +147,25 @@ pub fn put_report<E: Sink>(status: &Status, report: &mut E) -> Result<(), Failed
     ensures never_falls { E.faults report.old ≤ E.faults report.new }
     ensures gained { OnOk result (Gains (E.stands report.old) (E.stands report.new) (report_line status.now)) }
     ensures rose { OnErr result (Rose (E.faults report.old) (E.faults report.new)) }
+    ensures begun { OnErr result (GainsBegun (E.stands report.old) (E.stands report.new) (report_line status.now)) }
 {
     match *status {
         Status::Ok => put_whole(report, b""),
         Status::Usage => put_whole(report, b"averest: usage\n"),
         Status::ModuleUnavailable => put_whole(report, b"averest: module unavailable\n"),
-        Status::Refused { rule, place } => put_refusal(report, u32::from(rule), place),
+        Status::Refused { rule, place } => {
+            put_number_at(
+                report,
+                b"averest: refused S",
+                u32::from(rule),
+                b" at ",
+                place,
+            )
+        }
         Status::BadInput { step } => put_step(report, b"averest: bad input at step ", step),
-        Status::RunFault { step, kind, place } => put_fault(report, step, kind, place),
+        Status::RunFault { step, kind, place } => {
+            put_fault(report, b"averest: ", kind, step, place)
+        }
         Status::ReadFault => put_whole(report, b"averest: read fault\n"),
         Status::WriteFault => put_whole(report, b"averest: write fault\n"),
         Status::StepLimit => put_whole(report, b"averest: step limit\n"),
