@@ -1,0 +1,6 @@
+pub mod CallLemmas
+pub mod KernelLemmas
+pub mod LeastLemmas
+pub mod ScopeLemmas
+pub mod TargetLemmas
+pub mod WalkLemmas

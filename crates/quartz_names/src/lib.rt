@@ -1,0 +1,24 @@
+//! Names become numbers: scopes, variables, and the rule that each name is declared once.
+#![tactic(auto)]
+
+mod call;
+mod constant;
+mod expression;
+mod fault;
+mod kernel;
+mod names;
+mod place;
+mod resolving;
+mod target;
+mod walk;
+
+pub use call::has_call;
+pub use constant::{
+    Span, has_kind_of, is_sound_base, is_sound_length, is_within, start_value, type_range,
+};
+pub use fault::NamesFault;
+pub use place::{lesser_place, place_if};
+pub use resolving::{Resolved, resolve};
+
+#[cfg(test)]
+mod tests;
