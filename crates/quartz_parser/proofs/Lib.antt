@@ -1,5 +1,11 @@
 pub mod Agreement
+pub mod Frames
+pub mod HeadingLemmas
 pub mod Invariant
+pub mod ItemLemmas
 pub mod Kept
+pub mod ParsingLemmas
+pub mod ReaderLemmas
 pub mod ReadsExpr
 pub mod ReadsStmt
+pub mod TokenLemmas

@@ -1,5 +1,11 @@
 pub mod Grammar
+pub mod HeadingViews
+pub mod Items
 pub mod Machine
 pub mod Parsing
+pub mod ReaderViews
+pub mod Reading
+pub mod StatementViews
 pub mod Symbols
 pub mod Tokens
+pub mod Views

@@ -1,0 +1,9 @@
+use crate::symbol::Mark;
+
+/// The marks that have to come first, in order.
+#[derive(Clone, Copy)]
+pub enum Marks {
+    Zero,
+    One(Mark),
+    Two(Mark, Mark),
+}
