@@ -2,7 +2,7 @@
 #![tactic(auto)]
 
 use averest_top::averest;
-use outside::{DirShelf, NoGate, Status, StdSink, StdSource, put_report};
+use outside::{DirShelf, NoGate, Sink, Status, StdSink, StdSource, put_report};
 use quartz_tree::{Name, NoMemory};
 use std::alloc::Global;
 use std::env;
@@ -18,21 +18,21 @@ fn names(alloc: Global, words: env::Args) -> Result<Vec<Name>, NoMemory> {
     Ok(names)
 }
 
-fn status_of(error: &io::Error) -> Status {
+// The status where there are no words to read. Want of memory is not reported.
+fn without_words<E: Sink>(error: &io::Error, report: &mut E) -> Status {
     match error.kind() {
         ErrorKind::OutOfMemory => Status::NoMemory,
-        _ => Status::Usage,
+        _ => {
+            let _ = put_report(&Status::Usage, report);
+            Status::Usage
+        }
     }
 }
 
 fn main(rt: HostRuntime) -> ExitCode {
     let mut report = StdSink::new(rt.stderr());
     let status = match env::args(&rt) {
-        Err(error) => {
-            let status = status_of(&error);
-            let _ = put_report(&status, &mut report);
-            status
-        }
+        Err(error) => without_words(&error, &mut report),
         Ok(words) => match names(rt.alloc(), words) {
             Err(NoMemory) => Status::NoMemory,
             Ok(words) => averest(

@@ -63,7 +63,7 @@ fn run<'a>(text: &'a [u8], trace: &'a [u8]) -> Case<'a> {
 
 #[test]
 fn runs_and_ends(rt: HostRuntime) -> Result<(), Fail> {
-    let table: [(&[u8], &[u8], &str); 14] = [
+    let table: [(&[u8], &[u8], &str); 15] = [
         (M, b"1 0\n1 1\n", "0|1\n0\n|"),
         (M, b"0 0\n0 1\n1 0\n", "0|0\n0\n1\n|"),
         (M, b"1 0\n1\n", "4|1\n|averest: bad input at step 1\n"),
@@ -97,6 +97,12 @@ fn runs_and_ends(rt: HostRuntime) -> Result<(), Fail> {
             b"1\n",
             "0|1\n|",
         ),
+        // the type said again
+        (
+            b"module N(bool ?x, mem bool !a) { always { a = x; } }",
+            b"1\n",
+            "0|1\n|",
+        ),
         (
             b"/* M */ module N ( bool ? x , ! a ) { always { a = ! x & ! x & x ; } }",
             b"0\n",
@@ -115,20 +121,60 @@ fn runs_and_ends(rt: HostRuntime) -> Result<(), Fail> {
 #[test]
 fn refuses_texts(rt: HostRuntime) -> Result<(), Fail> {
     let unbuilt = "3||averest: refused S0 at 1:1\n";
-    let table: [(&[u8], &str); 10] = [
+    let table: [(&[u8], &str); 23] = [
         (b"module E() { }", unbuilt),
-        (b"", unbuilt),
-        (b"module N(bool ?x, !a) { always { a = x; } } }", unbuilt),
-        (b"module N(bool ?x, !a) { always { a = x; }", unbuilt),
+        (b"", "3||averest: refused S2 at 1:1\n"),
+        (
+            b"module N(bool ?x, !a) { always { a = x; } } }",
+            "3||averest: refused S2 at 1:45\n",
+        ),
+        (
+            b"module N(bool ?x, !a) { always { a = x; }",
+            "3||averest: refused S2 at 1:42\n",
+        ),
+        (
+            b"module M(bool !x) { x = ; }",
+            "3||averest: refused S2 at 1:25\n",
+        ),
+        // no parameter, another type, an event, a start value, an array
+        (b"module N() { always { } }", unbuilt),
+        (b"module N(bool ?x, nat{2} !a) { always { } }", unbuilt),
+        (b"module N(event ?x, !a) { always { } }", unbuilt),
+        (b"module N(bool !a = false) { always { } }", unbuilt),
+        (b"module N([2]bool !a) { always { } }", unbuilt),
+        // another statement, an operand in parentheses, a call, a second module
+        (b"module N(bool !a) { always { emit a; } }", unbuilt),
+        (b"module N(bool ?x, !a) { always { a = (x); } }", unbuilt),
+        (b"module N(bool !a) { always { N(a); } }", unbuilt),
+        (b"module N(bool !a) { always { } } module O() { }", unbuilt),
         // a name twice, an output written twice, an output read, an input written, a name that isn't declared
-        (b"module N(bool ?x, !x) { always { } }", unbuilt),
+        (
+            b"module N(bool ?x, !x) { always { } }",
+            "3||averest: refused S3 at 1:20\n",
+        ),
         (
             b"module N(bool ?x, !a) { always { a = x; a = x; } }",
             unbuilt,
         ),
         (b"module N(bool ?x, !a, !b) { always { a = b; } }", unbuilt),
         (b"module N(bool ?x, ?y) { always { x = y; } }", unbuilt),
-        (b"module N(bool ?x, !a) { always { a = z; } }", unbuilt),
+        (
+            b"module N(bool ?x, !a) { always { a = z; } }",
+            "3||averest: refused S3 at 1:38\n",
+        ),
+        // the use of a name before its declaration, in another block, and in a derived form
+        (
+            b"module M(bool !x) { x = y; }",
+            "3||averest: refused S3 at 1:25\n",
+        ),
+        (
+            b"module M(bool !x) { { bool y; } x = y; }",
+            "3||averest: refused S3 at 1:37\n",
+        ),
+        (
+            b"module M(bool !x) { await(y); }",
+            "3||averest: refused S3 at 1:27\n",
+        ),
         (
             b"module N(bool ?x, !a) {\n  always { a = #x; } }",
             "3||averest: refused S1 at 2:16\n",

@@ -1,134 +1,151 @@
--- The texts that are built so far: `always` with writes of conjunctions of inputs and negated inputs.
-use Rattle.std.specs.Prelude.{ℕ, suc, nat_le, Bool, true, false, not, ◌&&◌, List, [], ◌∷◌, ◌++◌, length, Option, Some, None, is_none, option_map, if◌then◌else◌, codes}
+-- The modules that are built so far: `always` with writes of conjunctions of inputs and negated inputs.
+use Rattle.std.specs.Prelude.{ℕ, suc, nat_le, Bool, true, false, not, ◌&&◌, List, [], ◌∷◌, ◌++◌, length, map, Option, Some, None, is_none, is_some, option_map, option_and_then, if◌then◌else◌}
 use Rattle.std.specs.List.{slice_set, slice_index_or}
 use Rattle.std.specs.Str.{bytes_eq}
-use Rattle.quartz_lexer.specs.declared.token.TokenKind.{TokenKind}
-use Rattle.quartz_lexer.specs.declared.token.TokenKind.TheVariants as kind
-use Rattle.quartz_lexer.specs.Lexing.{Lexeme}
+use Rattle.quartz_tree.specs.declared.declare.Base.{Base}
+use Rattle.quartz_tree.specs.declared.declare.Base.TheVariants.{Bool as bool_type}
+use Rattle.quartz_tree.specs.declared.declare.Storage.{Storage}
+use Rattle.quartz_tree.specs.declared.declare.Storage.TheVariants.{Mem}
+use Rattle.quartz_tree.specs.declared.declare.Flow.{Flow}
+use Rattle.quartz_tree.specs.declared.declare.Flow.TheVariants.{Output}
+use Rattle.quartz_tree.specs.declared.declare.Decl.{Decl}
+use Rattle.quartz_tree.specs.declared.expr.Unary.TheVariants.{Not}
+use Rattle.quartz_tree.specs.declared.expr.Binary.TheVariants.{And}
+use Rattle.quartz_tree.specs.Tree.{Tree, named, one, two}
+use Rattle.quartz_tree.specs.Surfaces.{Word, Goal, Written, block, always, write, Branch, done, Branches, none, beside, ModuleTree}
+use Rattle.quartz_tree.specs.Surfaces as plain
 use Rattle.averest_top.specs.declared.logic.Literal.{Literal}
-use Rattle.averest_top.specs.declared.combinational.Expected.{Expected}
-use Rattle.averest_top.specs.declared.combinational.Expected.TheVariants.{Module, ModuleName, Params, Bool as bool_word, Flow, ParamName, ParamEnd, Body, Always, Writes, Target, Equals, Operand, Negated, OperandEnd, End, Nothing}
-use Rattle.averest_top.specs.Logic.{Param, Conjunction}
+use Rattle.averest_top.specs.Logic.{Param, Conjunction, outputs_in}
 
 -- the parameters of a module with its conjunctions, in the order of their writes
 pub record Wiring : Type 0 where
   pub params : List Param
   pub conjunctions : List Conjunction
 
--- what a text has said so far, and what may come next: `free` says of each parameter whether it is an output without a
--- write, and the target and the operands are those of the write in hand
-pub record Known : Type 0 where
-  pub expected : Expected
-  pub params : List Param
-  pub free : List Bool
-  pub conjunctions : List Conjunction
-  pub target : ℕ
-  pub operands : List Literal
+abbrev pub is_output : Flow → Bool
+is_output Output = true
+is_output _ = false
 
-abbrev pub is_name : TokenKind → Bool
-is_name kind.Name = true
-is_name _ = false
+abbrev pub is_bool : Base → Bool
+is_bool bool_type = true
+is_bool _ = false
+
+abbrev pub is_memorized : Storage → Bool
+is_memorized Mem = true
+is_memorized _ = false
+
+-- a declared parameter
+abbrev pub param_of : Decl → Param
+param_of d = record { name = d.name; is_output = is_output d.flow }
+
+-- it is a memorized bool without a start value
+abbrev pub is_plain : Decl → Bool
+is_plain d = is_bool d.ty.base && (is_none d.ty.len && (is_memorized d.storage && is_none d.init))
 
 abbrev pub next_number : ℕ × Bool → ℕ × Bool
 next_number f = (suc f.0, f.1)
 
 -- the number of the first parameter with that name, and whether it is an output
-abbrev pub number_of : List Param → List ℕ → Option (ℕ × Bool)
+abbrev pub number_of : List Param → Word → Option (ℕ × Bool)
 number_of [] x = None
 number_of (p ∷ ps) x = if bytes_eq p.name x then Some (0, p.is_output) else option_map next_number (number_of ps x)
 
-abbrev pub if_so : Bool → Expected → Option Expected
-if_so b e = if b then Some e else None
+-- plain parameters, no two of one name
+abbrev pub are_plain : List Decl → Bool
+are_plain [] = true
+are_plain (d ∷ ds) = is_plain d && (is_none (number_of (map param_of ds) d.name) && are_plain ds)
 
--- what may come behind a keyword or a sign: `module M(bool ?x, !y) { always { y = !x & x; } }`
-abbrev pub behind : Expected → TokenKind → List ℕ → Option Expected
-behind Module k w = if_so (bytes_eq w (codes "module")) ModuleName
-behind ModuleName k w = if_so (is_name k) Params
-behind Params k w = if_so (bytes_eq w (codes "(")) bool_word
-behind bool_word k w = if_so (bytes_eq w (codes "bool")) Flow
-behind Flow k w = if bytes_eq w (codes "?") then Some (ParamName false) else if_so (bytes_eq w (codes "!")) (ParamName true)
-behind (ParamName o) k w = None
-behind ParamEnd k w = if bytes_eq w (codes ",") then Some Flow else if_so (bytes_eq w (codes ")")) Body
-behind Body k w = if_so (bytes_eq w (codes "{")) Always
-behind Always k w = if_so (bytes_eq w (codes "always")) Writes
-behind Writes k w = if_so (bytes_eq w (codes "{")) Target
-behind Target k w = if_so (bytes_eq w (codes "}")) End
-behind Equals k w = if_so (bytes_eq w (codes "=")) Operand
-behind Operand k w = if_so (bytes_eq w (codes "!")) Negated
-behind Negated k w = None
-behind OperandEnd k w = if_so (bytes_eq w (codes "&")) Operand
-behind End k w = if_so (bytes_eq w (codes "}")) Nothing
-behind Nothing k w = None
+-- the operand that names a parameter, which has to be an input
+abbrev pub input_literal : (negated : Bool) → Option (ℕ × Bool) → Option Literal
+input_literal negated (Some (n, false)) = Some (record { negated = negated; var = n })
+input_literal negated _ = None
 
--- a parameter with a new name
-abbrev pub with_param : Known → (is_output : Bool) → List ℕ → Known
-with_param t o w = record {
-  expected = ParamEnd;
-  params = t.params ++ record { name = w; is_output = o } ∷ [];
-  free = t.free ++ o ∷ [];
-  conjunctions = t.conjunctions;
-  target = t.target;
-  operands = t.operands;
-}
+-- `x`, or `!x`
+abbrev pub literal_of : List Param → Tree Word → Option Literal
+literal_of ps (named x _) = input_literal false (number_of ps x)
+literal_of ps (one Not (named x _) _) = input_literal true (number_of ps x)
+literal_of ps _ = None
 
--- the write of a parameter begins
-abbrev pub with_target : Known → ℕ → Known
-with_target t n = record { expected = Equals; params = t.params; free = t.free; conjunctions = t.conjunctions; target = n; operands = t.operands }
+abbrev pub alone : Literal → List Literal
+alone l = l ∷ []
 
--- one more operand of the write in hand: an input, and at most 63 of them
-abbrev pub with_operand : Known → (negated : Bool) → Option (ℕ × Bool) → Option Known
-with_operand t negated None = None
-with_operand t negated (Some (n, is_output)) =
-    if not is_output && nat_le (suc (length t.operands)) 63
-    then Some (record { expected = OperandEnd; params = t.params; free = t.free; conjunctions = t.conjunctions; target = t.target; operands = t.operands ++ record { negated = negated; var = n } ∷ [] })
+abbrev pub with_last : List Literal → Literal → List Literal
+with_last ls l = ls ++ alone l
+
+-- operands joined by `&`, from the left
+abbrev pub operands_of : List Param → Tree Word → Option (List Literal)
+operands_of ps (two And a b _) = option_and_then (λ ls. option_map (with_last ls) (literal_of ps b)) (operands_of ps a)
+operands_of ps e = option_map alone (literal_of ps e)
+
+-- what writes have said so far: which parameters are outputs without a write, and the conjunctions
+pub record Drawn : Type 0 where
+  pub free : List Bool
+  pub conjunctions : List Conjunction
+
+-- one conjunction more, of at most 63 operands and for an output without a write
+abbrev pub with_conjunction : Drawn → (target : ℕ) → List Literal → Option Drawn
+with_conjunction t n ls =
+    if slice_index_or t.free n false && nat_le (length ls) 63
+    then Some (record { free = slice_set t.free n false; conjunctions = t.conjunctions ++ record { target = n; operands = ls } ∷ [] })
     else None
 
--- the write in hand ends: its target is an output without a write
-abbrev pub with_write : Known → Option Known
-with_write t =
-    if slice_index_or t.free t.target false
-    then Some (record { expected = Target; params = t.params; free = slice_set t.free t.target false; conjunctions = t.conjunctions ++ record { target = t.target; operands = t.operands } ∷ []; target = t.target; operands = [] })
-    else None
+-- the target of a write: a parameter without an index
+abbrev pub target_of : List Param → Goal → Option ℕ
+target_of ps g = if is_some g.index then None else option_map (λ f. f.0) (number_of ps g.name)
 
--- what names, and the ends of writes, say
-abbrev pub known_by : Expected → Known → TokenKind → List ℕ → Option Known
-known_by (ParamName o) t k w = if is_name k && is_none (number_of t.params w) then Some (with_param t o w) else None
-known_by Target t k w = if is_name k then option_map (λ f. with_target t f.0) (number_of t.params w) else None
-known_by Operand t k w = if is_name k then with_operand t false (number_of t.params w) else None
-known_by Negated t k w = if is_name k then with_operand t true (number_of t.params w) else None
-known_by OperandEnd t k w = if bytes_eq w (codes ";") then with_write t else None
-known_by _ t k w = None
+-- one statement more, which has to be a write in this macro step
+abbrev pub with_statement : List Param → Drawn → Written → Option Drawn
+with_statement ps t (write false g e _) = option_and_then (λ n. option_and_then (with_conjunction t n) (operands_of ps e)) (target_of ps g)
+with_statement ps t _ = None
 
-abbrev pub expecting : Known → Expected → Known
-expecting t e = record { expected = e; params = t.params; free = t.free; conjunctions = t.conjunctions; target = t.target; operands = t.operands }
+abbrev pub with_statements : List Param → Drawn → Branch → Option Drawn
+with_statements ps t done = Some t
+with_statements ps t (plain.then s rest) = option_and_then (λ u. with_statements ps u rest) (with_statement ps t s)
 
-abbrev pub by_word : Option Expected → Known → TokenKind → List ℕ → Option Known
-by_word (Some e) t k w = Some (expecting t e)
-by_word None t k w = known_by t.expected t k w
+-- the branch that stands alone
+abbrev pub only_branch : Branches → Option Branch
+only_branch (beside b none) = Some b
+only_branch _ = None
 
--- with one token more
-abbrev pub after : Known → TokenKind → List ℕ → Option Known
-after t k w = by_word (behind t.expected k w) t k w
+-- the branch of a block that has no declarations and no other branch
+abbrev pub sole_branch : Written → Option Branch
+sole_branch (block [] bs) = only_branch bs
+sole_branch _ = None
 
-abbrev pub and_then : Option Known → (Known → Option Known) → Option Known
-and_then None f = None
-and_then (Some t) f = f t
+-- the statement that stands alone in a branch
+abbrev pub sole_statement : Branch → Option Written
+sole_statement (plain.then s done) = Some s
+sole_statement _ = None
 
-abbrev pub after_all : Known → List Lexeme → Option Known
-after_all t [] = Some t
-after_all t (l ∷ ls) = and_then (after t l.kind l.text) (λ u. after_all u ls)
+-- what is done in each macro step
+abbrev pub always_of : Written → Option Written
+always_of (always s _) = Some s
+always_of _ = None
 
-abbrev pub nothing_known : Known
-nothing_known = record { expected = Module; params = []; free = []; conjunctions = []; target = 0; operands = [] }
+-- the writes of `{ always { writes } }`
+abbrev pub writes_of : Written → Option Branch
+writes_of body = option_and_then sole_branch (option_and_then always_of (option_and_then sole_statement (sole_branch body)))
 
-abbrev pub is_over : Expected → Bool
-is_over Nothing = true
-is_over _ = false
+-- before any write
+abbrev pub undrawn : List Param → Drawn
+undrawn ps = record { free = outputs_in ps; conjunctions = [] }
 
-abbrev pub whole : Option Known → Option Wiring
-whole None = None
-whole (Some t) = if is_over t.expected then Some (record { params = t.params; conjunctions = t.conjunctions }) else None
+abbrev pub wired : List Param → Drawn → Wiring
+wired ps t = record { params = ps; conjunctions = t.conjunctions }
 
--- the wiring that the tokens of a text say
-abbrev pub wiring_in : List Lexeme → Option Wiring
-wiring_in ls = whole (after_all nothing_known ls)
+abbrev pub wiring_by : List Param → Branch → Option Wiring
+wiring_by ps ws = option_map (wired ps) (with_statements ps (undrawn ps) ws)
+
+-- there is a parameter, and all are plain
+abbrev pub has_plain_params : List Decl → Bool
+has_plain_params [] = false
+has_plain_params ds = are_plain ds
+
+-- the wiring of a module of the form that is built so far, as `module M(bool ?x, !y) { always { y = !x & x; } }`
+abbrev pub wiring_of : ModuleTree → Option Wiring
+wiring_of m = if has_plain_params m.params then option_and_then (wiring_by (map param_of m.params)) (writes_of m.body) else None
+
+-- the wiring of a text, which has to have one module
+abbrev pub wiring_in : List ModuleTree → Option Wiring
+wiring_in (m ∷ []) = wiring_of m
+wiring_in _ = None

@@ -1,26 +1,15 @@
--- What a draft of a text has of it.
+-- What a draft of a module's writes has of them.
 use Rattle.std.specs.Prelude.{◌≡◌, Bool, true, false, map, Option, Some, None}
-use Rattle.averest_top.specs.declared.combinational.Param.{Param as NamedParam}
 use Rattle.averest_top.specs.declared.combinational.Draft.{Draft}
 use Rattle.averest_top.specs.declared.logic.Logic.{Logic}
-use Rattle.averest_top.specs.Logic.{Param, conjunction, IsLogicOf}
-use Rattle.averest_top.specs.Combinational.{Known, Wiring}
+use Rattle.averest_top.specs.Logic.{conjunction, IsLogicOf}
+use Rattle.averest_top.specs.Combinational.{Drawn, Wiring}
 
-abbrev pub param_of : NamedParam → Param
-param_of p = record { name = p.name.now; is_output = p.is_output }
+abbrev pub drawn_of : Draft → Drawn
+drawn_of d = record { free = d.free.items; conjunctions = map conjunction d.assignments.items }
 
-abbrev pub known_of : Draft → Known
-known_of d = record {
-  expected = d.expected;
-  params = map param_of d.params.items;
-  free = d.free.items;
-  conjunctions = map conjunction d.assignments.items;
-  target = d.target;
-  operands = d.operands.items;
-}
-
--- one token more is known, or it may not come
-abbrev pub Changed : Option Known → Known → Bool → Type 0
+-- one statement more is drawn, or it may not stand there
+abbrev pub Changed : Option Drawn → Drawn → Bool → Type 0
 Changed expected now true = expected ≡ Some now
 Changed expected now false = expected ≡ None
 

@@ -57,6 +57,12 @@ IsOfRun WriteFault = Unit {0}
 IsOfRun StepLimit = Unit {0}
 IsOfRun _ = ⊥
 
+-- the statuses that come while no step of a built module has a fault, and no command asks for a witness
+abbrev pub CanCome : Status → Type 0
+CanCome (RunFault _ _ _) = ⊥
+CanCome (BadWitness _) = ⊥
+CanCome _ = Unit {0}
+
 -- the text is built
 abbrev pub IsRun : List ℕ → Type 0
 IsRun text = (w : Wiring) × IsBuilt text w

@@ -1,9 +1,21 @@
--- How the faults of tokens are refused.
+-- How the faults of tokens, of the grammar and of names are refused.
 use Rattle.quartz_lexer.specs.declared.fault.LexFault.{LexFault}
 use Rattle.quartz_lexer.specs.declared.fault.LexFault.TheVariants as lexing
+use Rattle.quartz_parser.specs.declared.fault.ParseFault.{ParseFault}
+use Rattle.quartz_parser.specs.declared.fault.ParseFault.TheVariants as parsing
+use Rattle.quartz_names.specs.declared.fault.NamesFault.{NamesFault}
+use Rattle.quartz_names.specs.declared.fault.NamesFault.TheVariants as naming
 use Rattle.averest_top.specs.declared.reading.TextFault.{TextFault}
 use Rattle.averest_top.specs.declared.reading.TextFault.TheVariants.{Refused, NoMemory}
 
 abbrev pub lex_refusal : LexFault → TextFault
 lex_refusal (lexing.S1 p) = Refused 1 p
 lex_refusal lexing.NoMemory = NoMemory
+
+abbrev pub parse_refusal : ParseFault → TextFault
+parse_refusal (parsing.S2 p) = Refused 2 p
+parse_refusal parsing.NoMemory = NoMemory
+
+abbrev pub names_refusal : NamesFault → TextFault
+names_refusal (naming.S3 p) = Refused 3 p
+names_refusal naming.NoMemory = NoMemory

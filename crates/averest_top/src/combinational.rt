@@ -1,285 +1,355 @@
-ghost use Rattle.std.specs.Prelude.{◌≡◌, ◌<◌, IfOk, Some, None, option_map, map, is_none, if◌then◌else◌};
+//! Modules of the form that is built so far: `always` with writes of conjunctions of inputs and negated inputs.
+
+ghost use Rattle.std.specs.Prelude.{◌≡◌, IfOk, option_map, option_and_then, map};
 ghost use Rattle.std.specs.Str.{bytes_eq};
-ghost use Rattle.quartz_lexer.specs.Lexing.{lexemes, AreTokensOf};
-ghost use Rattle.averest_top.specs.Combinational.{Known, nothing_known, is_name, number_of, if_so, behind, with_param, with_target, with_operand, with_write, known_by, after, after_all, wiring_in};
+ghost use Rattle.quartz_tree.specs.Tree.{tree};
+ghost use Rattle.quartz_tree.specs.Surfaces.{written, branch, branches_of, module_tree, goal_of};
+ghost use Rattle.averest_top.specs.Combinational.{param_of, is_plain as plain, is_output as output, number_of, are_plain as plain_all, input_literal, literal_of, with_last, operands_of, target_of, with_conjunction, with_statement, with_statements, only_branch as only_of, sole_branch as branch_of, sole_statement as statement_of, always_of, writes_of, undrawn, wiring_by, wiring_of};
 ghost use Rattle.averest_top.specs.Logic.{outputs_in};
-ghost use Rattle.averest_top.specs.Drafts.{param_of, known_of, Changed, Wires};
+ghost use Rattle.averest_top.specs.Drafts.{drawn_of, Changed, Wires};
 
 use crate::logic::{Assignment, Literal, Logic};
-use quartz_lexer::{TokenKind, Tokens};
-use quartz_tree::NoMemory;
+use quartz_tree::{
+    Base, Binary, Decl, Expr, Flow, Module, Name, NoMemory, Storage, Surface, Target, Unary,
+};
 use std::alloc::Global;
-use std::mem::replace;
 
 // The most operands that a conjunction has.
 const MOST_OPERANDS: usize = 63;
 
-/// What may come next in a text of the form that is built so far.
-#[derive(Clone, Copy, Debug, PartialEq, Eq)]
-pub enum Expected {
-    Module,
-    ModuleName,
-    /// The `(` before the parameters.
-    Params,
-    Bool,
-    /// `?` or `!`.
-    Flow,
-    ParamName { is_output: bool },
-    /// `,` or `)`.
-    ParamEnd,
-    /// The `{` of the body.
-    Body,
-    Always,
-    /// The `{` before the writes.
-    Writes,
-    /// The name of an output, or the `}` behind the writes.
-    Target,
-    Equals,
-    /// An input, or `!`.
-    Operand,
-    /// An input behind its `!`.
-    Negated,
-    /// `&` or `;`.
-    OperandEnd,
-    /// The `}` of the body.
-    End,
-    Nothing,
-}
-
-/// A parameter by its name in the text.
-#[derive(Clone, Copy)]
-pub struct Param<'a> {
-    pub name: &'a [u8],
-    pub is_output: bool,
-}
-
-/// What a text has said so far.
-#[derive(Drop)]
-pub struct Draft<'a> {
-    pub expected: Expected,
-    pub params: Vec<Param<'a>>,
-    // The outputs without a write.
+/// What a module's writes have said so far.
+#[derive(Debug, Drop)]
+pub struct Draft {
+    // For each parameter whether it is an output without a write.
     pub free: Vec<bool>,
     pub assignments: Vec<Assignment>,
-    // The target and the operands of the write in hand.
-    pub target: usize,
-    pub operands: Vec<Literal>,
 }
 
-fn is_name_kind(kind: TokenKind) -> bool
-    ensures { result ≡ is_name kind }
+fn is_output(flow: Flow) -> bool
+    ensures { result ≡ output flow }
 {
-    matches!(kind, TokenKind::Name)
+    matches!(flow, Flow::Output)
 }
 
-fn spelled(word: &[u8], as_this: &[u8]) -> bool
-    ensures { result ≡ bytes_eq word.now as_this.now }
+// Whether a parameter is a memorized bool without a start value.
+fn is_plain(decl: &Decl) -> bool
+    ensures { result ≡ plain decl.now }
 {
-    word == as_this
+    matches!(decl.ty.base, Base::Bool)
+        && decl.ty.len.is_none()
+        && matches!(decl.storage, Storage::Mem)
+        && decl.init.is_none()
+}
+
+fn is_named(decl: &Decl, name: &Name) -> bool
+    ensures { result ≡ bytes_eq decl.now.name name.now }
+{
+    decl.name.text() == name.text()
 }
 
 // The number of the first parameter with this name, and whether it is an output.
-fn position(params: &[Param], name: &[u8]) -> Option<(usize, bool)>
-    ensures is { result ≡ number_of (map param_of params.now) name.now }
+fn position(params: &[Decl], name: &Name) -> Option<(usize, bool)>
+    ensures { result ≡ number_of (map param_of params.now) name.now }
 {
-    for (at, param) in params.iter().enumerate() {
-        if param.name == name {
-            return Some((at, param.is_output));
+    for (at, decl) in params.iter().enumerate() {
+        if is_named(decl, name) {
+            return Some((at, is_output(decl.flow)));
         }
     }
     None
 }
 
-fn so(is: bool, expected: Expected) -> Option<Expected>
-    ensures { result ≡ if_so is expected }
+// Whether all parameters are plain, and no two have one name.
+fn are_plain(params: &[Decl]) -> bool
+    ensures { result ≡ plain_all params.now }
 {
-    if is { Some(expected) } else { None }
+    for (at, decl) in params.iter().enumerate() {
+        if !is_plain(decl) || position(&params[at + 1..], &decl.name).is_some() {
+            return false;
+        }
+    }
+    true
 }
 
-// What may come behind a keyword or a sign.
-fn behind_word(expected: Expected, kind: TokenKind, word: &[u8]) -> Option<Expected>
-    ensures { result ≡ behind expected kind word.now }
+// The operand that names a parameter, which has to be an input.
+fn input(params: &[Decl], name: &Name, negated: bool) -> Option<Literal>
+    ensures { result ≡ input_literal negated (number_of (map param_of params.now) name.now) }
 {
-    match expected {
-        Expected::Module => so(spelled(word, b"module"), Expected::ModuleName),
-        Expected::ModuleName => so(is_name_kind(kind), Expected::Params),
-        Expected::Params => so(spelled(word, b"("), Expected::Bool),
-        Expected::Bool => so(spelled(word, b"bool"), Expected::Flow),
-        Expected::Flow => behind_flow(word),
-        Expected::ParamEnd => behind_param(word),
-        Expected::Body => so(spelled(word, b"{"), Expected::Always),
-        Expected::Always => so(spelled(word, b"always"), Expected::Writes),
-        Expected::Writes => so(spelled(word, b"{"), Expected::Target),
-        Expected::Target => so(spelled(word, b"}"), Expected::End),
-        Expected::Equals => so(spelled(word, b"="), Expected::Operand),
-        Expected::Operand => so(spelled(word, b"!"), Expected::Negated),
-        Expected::OperandEnd => so(spelled(word, b"&"), Expected::Operand),
-        Expected::End => so(spelled(word, b"}"), Expected::Nothing),
-        Expected::ParamName { .. } | Expected::Negated | Expected::Nothing => None,
+    match position(params, name) {
+        Some((var, false)) => Some(Literal { negated, var }),
+        _ => None,
     }
 }
 
-fn behind_flow(word: &[u8]) -> Option<Expected>
-    ensures { result ≡ behind Expected.Flow TokenKind.Name word.now }
+// `x`, or `!x`.
+fn literal(params: &[Decl], operand: &Expr<Name>) -> Option<Literal>
+    ensures { result ≡ literal_of (map param_of params.now) (tree operand.now) }
 {
-    if spelled(word, b"?") {
-        Some(Expected::ParamName { is_output: false })
-    } else {
-        so(spelled(word, b"!"), Expected::ParamName { is_output: true })
+    match operand {
+        Expr::Named { var, .. } => input(params, var, false),
+        Expr::One {
+            op: Unary::Not,
+            part,
+            ..
+        } => match &**part {
+            Expr::Named { var, .. } => input(params, var, true),
+            _ => None,
+        },
+        _ => None,
     }
 }
 
-fn behind_param(word: &[u8]) -> Option<Expected>
-    ensures { result ≡ behind Expected.ParamEnd TokenKind.Name word.now }
+// Operands with one more, where there is one.
+fn with_operand(
+    front: Option<Vec<Literal>>,
+    last: Option<Literal>,
+) -> Result<Option<Vec<Literal>>, NoMemory>
+    ensures { IfOk result (λ o. option_map (λ v. v.items) o ≡ option_and_then (λ ls. option_map (with_last ls) last) (option_map (λ v. v.items) front)) }
 {
-    if spelled(word, b",") {
-        Some(Expected::Flow)
-    } else {
-        so(spelled(word, b")"), Expected::Body)
+    match (front, last) {
+        (Some(mut operands), Some(literal)) => {
+            operands.push(literal)?;
+            Ok(Some(operands))
+        }
+        _ => Ok(None),
     }
 }
 
-impl<'a> Draft<'a> {
-    fn new(alloc: Global) -> Draft<'a>
-        ensures { known_of result ≡ nothing_known }
-    {
-        Draft {
-            expected: Expected::Module,
-            params: Vec::new(alloc),
-            free: Vec::new(alloc),
-            assignments: Vec::new(alloc),
-            target: 0,
-            operands: Vec::new(alloc),
+// The operands that are joined by `&`, from the left.
+fn operands(
+    alloc: Global,
+    params: &[Decl],
+    value: &Expr<Name>,
+) -> Result<Option<Vec<Literal>>, NoMemory>
+    ensures { IfOk result (λ o. option_map (λ v. v.items) o ≡ operands_of (map param_of params.now) (tree value.now)) }
+{
+    match value {
+        Expr::Two {
+            op: Binary::And,
+            left,
+            right,
+            ..
+        } => {
+            let front = operands(alloc, params, left)?;
+            let all = with_operand(front, literal(params, right))?;
+            Ok(all)
         }
-    }
-
-    // A parameter, if its name is new.
-    fn add_param(&mut self, is_output: bool, name: &'a [u8]) -> Result<bool, NoMemory>
-        ensures { IfOk result (Changed (if is_none (number_of (known_of self.old).params name.now) then Some (with_param (known_of self.old) is_output name.now) else None) (known_of self.new)) }
-    {
-        if position(&self.params, name).is_some() {
-            return Ok(false);
-        }
-        self.params.push(Param { name, is_output })?;
-        self.free.push(is_output)?;
-        self.expected = Expected::ParamEnd;
-        Ok(true)
-    }
-
-    // The write of a parameter begins.
-    fn begin_write(&mut self, name: &[u8]) -> bool
-        ensures { Changed (option_map (λ f. with_target (known_of self.old) f.0) (number_of (known_of self.old).params name.now)) (known_of self.new) result }
-    {
-        match position(&self.params, name) {
-            None => false,
-            Some((target, _)) => {
-                self.target = target;
-                self.expected = Expected::Equals;
-                true
-            }
-        }
-    }
-
-    // One more operand of the write in hand.
-    fn add_operand(&mut self, negated: bool, name: &[u8]) -> Result<bool, NoMemory>
-        ensures { IfOk result (Changed (with_operand (known_of self.old) negated (number_of (known_of self.old).params name.now)) (known_of self.new)) }
-    {
-        match position(&self.params, name) {
-            Some((var, false)) if self.operands.len() < MOST_OPERANDS => {
-                self.operands.push(Literal { negated, var })?;
-                self.expected = Expected::OperandEnd;
-                Ok(true)
-            }
-            _ => Ok(false),
-        }
-    }
-
-    // The write in hand ends.
-    fn end_write(&mut self, alloc: Global) -> Result<bool, NoMemory>
-        ensures { IfOk result (Changed (with_write (known_of self.old)) (known_of self.new)) }
-    {
-        let target = self.target;
-        if target >= self.free.len() || !self.free[target] {
-            return Ok(false);
-        }
-        self.free[target] = false;
-        let operands = replace(&mut self.operands, Vec::new(alloc));
-        self.assignments.push(Assignment { target, operands })?;
-        self.expected = Expected::Target;
-        Ok(true)
-    }
-
-    // What a name or the end of a write says.
-    fn hear(&mut self, alloc: Global, kind: TokenKind, word: &'a [u8]) -> Result<bool, NoMemory>
-        ensures { IfOk result (Changed (known_by (known_of self.old).expected (known_of self.old) kind word.now) (known_of self.new)) }
-    {
-        let is_name = is_name_kind(kind);
-        match self.expected {
-            Expected::ParamName { is_output } if is_name => self.add_param(is_output, word),
-            Expected::Target if is_name => Ok(self.begin_write(word)),
-            Expected::Operand if is_name => self.add_operand(false, word),
-            Expected::Negated if is_name => self.add_operand(true, word),
-            Expected::OperandEnd if spelled(word, b";") => self.end_write(alloc),
-            _ => Ok(false),
-        }
-    }
-
-    // One token more.
-    fn go_on(&mut self, alloc: Global, kind: TokenKind, word: &'a [u8]) -> Result<bool, NoMemory>
-        ensures { IfOk result (Changed (after (known_of self.old) kind word.now) (known_of self.new)) }
-    {
-        match behind_word(self.expected, kind, word) {
-            Some(expected) => {
-                self.expected = expected;
-                Ok(true)
-            }
-            None => self.hear(alloc, kind, word),
+        operand => {
+            let all = with_operand(Some(Vec::new(alloc)), literal(params, operand))?;
+            Ok(all)
         }
     }
 }
 
-fn outputs_among(alloc: Global, params: &[Param]) -> Result<Vec<bool>, NoMemory>
+// The target of a write: a parameter without an index.
+fn target_number(params: &[Decl], target: &Target) -> Option<usize>
+    ensures { result ≡ target_of (map param_of params.now) (goal_of target.now) }
+{
+    if target.index.is_some() {
+        return None;
+    }
+    match position(params, &target.name) {
+        Some((number, _)) => Some(number),
+        None => None,
+    }
+}
+
+fn outputs_among(alloc: Global, params: &[Decl]) -> Result<Vec<bool>, NoMemory>
     ensures { IfOk result (λ v. v.items ≡ outputs_in (map param_of params.now)) }
 {
     let mut outputs = Vec::new(alloc);
-    for param in params {
-        outputs.push(param.is_output)?;
+    for decl in params {
+        outputs.push(is_output(decl.flow))?;
     }
     Ok(outputs)
 }
 
-// The draft of a text once all tokens are heard, or none where one may not come.
-fn read_draft<'a>(
-    alloc: Global,
-    tokens: &Tokens,
-    text: &'a [u8],
-) -> Result<Option<Draft<'a>>, NoMemory>
-    requires { AreTokensOf text.now tokens.now }
-    ensures { IfOk result (λ o. option_map known_of o ≡ after_all nothing_known (lexemes text.now tokens.now.items.items)) }
-{
-    let mut draft = Draft::new(alloc);
-    for token in &tokens.items {
-        let word = &text[token.start as usize..token.end as usize];
-        if !draft.go_on(alloc, token.kind, word)? {
-            return Ok(None);
+impl Draft {
+    // Before any write.
+    fn new(alloc: Global, params: &[Decl]) -> Result<Draft, NoMemory>
+        ensures { IfOk result (λ d. drawn_of d ≡ undrawn (map param_of params.now)) }
+    {
+        Ok(Draft {
+            free: outputs_among(alloc, params)?,
+            assignments: Vec::new(alloc),
+        })
+    }
+
+    // One conjunction more, if its target is an output without a write.
+    fn add(&mut self, target: usize, operands: Vec<Literal>) -> Result<bool, NoMemory>
+        ensures { IfOk result (Changed (with_conjunction (drawn_of self.old) target operands.items) (drawn_of self.new)) }
+    {
+        if target >= self.free.len() || !self.free[target] || operands.len() > MOST_OPERANDS {
+            return Ok(false);
+        }
+        self.free[target] = false;
+        self.assignments.push(Assignment { target, operands })?;
+        Ok(true)
+    }
+
+    // One write more, if it is a conjunction.
+    fn draw_write(
+        &mut self,
+        alloc: Global,
+        params: &[Decl],
+        target: &Target,
+        value: &Expr<Name>,
+    ) -> Result<bool, NoMemory>
+        ensures { IfOk result (Changed (option_and_then (λ n. option_and_then (with_conjunction (drawn_of self.old) n) (operands_of (map param_of params.now) (tree value.now))) (target_of (map param_of params.now) (goal_of target.now))) (drawn_of self.new)) }
+    {
+        let Some(number) = target_number(params, target) else {
+            return Ok(false);
+        };
+        match operands(alloc, params, value)? {
+            Some(operands) => {
+                let added = self.add(number, operands)?;
+                Ok(added)
+            }
+            None => Ok(false),
         }
     }
-    Ok(Some(draft))
+
+    // One statement more, if it is such a write.
+    #[tactic(auto, using(quartz_tree::proofs::SurfaceLemmas::written_write))]
+    fn draw(
+        &mut self,
+        alloc: Global,
+        params: &[Decl],
+        statement: &Surface,
+    ) -> Result<bool, NoMemory>
+        ensures { IfOk result (Changed (with_statement (map param_of params.now) (drawn_of self.old) (written statement.now)) (drawn_of self.new)) }
+    {
+        match statement {
+            Surface::Write {
+                delayed: false,
+                target,
+                value,
+                ..
+            } => {
+                let drawn = self.draw_write(alloc, params, target, value)?;
+                Ok(drawn)
+            }
+            _ => Ok(false),
+        }
+    }
+
+    // All statements of a branch, or none where one may not stand there.
+    fn draw_all(
+        alloc: Global,
+        params: &[Decl],
+        statements: &[Surface],
+    ) -> Result<Option<Draft>, NoMemory>
+        ensures { IfOk result (λ o. option_map drawn_of o ≡ with_statements (map param_of params.now) (undrawn (map param_of params.now)) (branch (map written statements.now))) }
+    {
+        let mut draft = Draft::new(alloc, params)?;
+        for statement in statements {
+            if !draft.draw(alloc, params, statement)? {
+                return Ok(None);
+            }
+        }
+        Ok(Some(draft))
+    }
 }
 
-/// The logic of a text of the form that is built so far, or none for another text.
-pub fn wire(alloc: Global, tokens: &Tokens, text: &[u8]) -> Result<Option<Logic>, NoMemory>
-    requires { AreTokensOf text.now tokens.now }
-    ensures { IfOk result (λ o. Wires (wiring_in (lexemes text.now tokens.now.items.items)) o) }
+// The branch that stands alone.
+#[tactic(auto, using(crate::proofs::FormLemmas::not_one_branch))]
+fn only_branch(branches: &[Vec<Surface>]) -> Option<&[Surface]>
+    ensures { option_map (λ b. branch (map written b.now)) result ≡ only_of (branches_of (map (λ b. branch (map written b.items)) branches.now)) }
 {
-    match read_draft(alloc, tokens, text)? {
-        Some(draft) if draft.expected == Expected::Nothing => {
-            let outputs = outputs_among(alloc, &draft.params)?;
+    if branches.len() == 1 {
+        Some(branches[0].as_slice())
+    } else {
+        None
+    }
+}
+
+// The statements of a block that has no declarations and one branch.
+#[tactic(auto, using(quartz_tree::proofs::SurfaceLemmas::written_block))]
+fn sole_branch(statement: &Surface) -> Option<&[Surface]>
+    ensures { option_map (λ b. branch (map written b.now)) result ≡ branch_of (written statement.now) }
+{
+    match statement {
+        Surface::Block { decls, branches } => {
+            if decls.is_empty() {
+                only_branch(branches)
+            } else {
+                None
+            }
+        }
+        _ => None,
+    }
+}
+
+// The statement that stands alone.
+#[tactic(auto, using(crate::proofs::FormLemmas::not_one_statement))]
+fn sole_statement(statements: &[Surface]) -> Option<&Surface>
+    ensures { option_map (λ s. written s.now) result ≡ statement_of (branch (map written statements.now)) }
+{
+    if statements.len() == 1 {
+        Some(&statements[0])
+    } else {
+        None
+    }
+}
+
+// What is done in each macro step.
+fn always_body(statement: &Surface) -> Option<&Surface>
+    ensures { option_map (λ s. written s.now) result ≡ always_of (written statement.now) }
+{
+    match statement {
+        Surface::Always { body, .. } => Some(&**body),
+        _ => None,
+    }
+}
+
+// The writes of `{ always { writes } }`.
+fn writes(body: &Surface) -> Option<&[Surface]>
+    ensures { option_map (λ b. branch (map written b.now)) result ≡ writes_of (written body.now) }
+{
+    let Some(statements) = sole_branch(body) else {
+        return None;
+    };
+    let Some(statement) = sole_statement(statements) else {
+        return None;
+    };
+    match always_body(statement) {
+        Some(always) => sole_branch(always),
+        None => None,
+    }
+}
+
+// The logic of these writes.
+fn wire_writes(
+    alloc: Global,
+    params: &[Decl],
+    statements: &[Surface],
+) -> Result<Option<Logic>, NoMemory>
+    ensures { IfOk result (λ o. Wires (wiring_by (map param_of params.now) (branch (map written statements.now))) o) }
+{
+    match Draft::draw_all(alloc, params, statements)? {
+        Some(draft) => {
+            let outputs = outputs_among(alloc, params)?;
             Ok(Some(Logic {
                 outputs,
                 assignments: draft.assignments,
             }))
         }
-        _ => Ok(None),
+        None => Ok(None),
+    }
+}
+
+/// The logic of a module of the form that is built so far, or none for another module.
+pub fn wire_module(alloc: Global, only: &Module) -> Result<Option<Logic>, NoMemory>
+    ensures { IfOk result (λ o. Wires (wiring_of (module_tree only.now)) o) }
+{
+    if only.params.is_empty() || !are_plain(&only.params) {
+        return Ok(None);
+    }
+    match writes(&only.body) {
+        Some(statements) => {
+            let logic = wire_writes(alloc, &only.params, statements)?;
+            Ok(logic)
+        }
+        None => Ok(None),
     }
 }

@@ -5,7 +5,7 @@ ghost use Rattle.outside.specs.Words.{meant, run_of};
 ghost use Rattle.outside.specs.Report.{report_line};
 ghost use Rattle.averest_top.specs.Combinational.{Wiring};
 ghost use Rattle.averest_top.specs.Reading.{IsBuilt, Refuses};
-ghost use Rattle.averest_top.specs.Promise.{ComesWith, ComesBefore, HasText, LacksText, IsExcused, Outcome, OfText, refusal_status};
+ghost use Rattle.averest_top.specs.Promise.{ComesWith, ComesBefore, HasText, LacksText, IsExcused, CanCome, Outcome, OfText, refusal_status};
 
 use crate::reading::{TextFault, read_text};
 use crate::run::run_logic;
@@ -31,6 +31,9 @@ fn status_of_fault(fault: TextFault) -> Status
 fn run_text<S: Source, O: Sink>(alloc: Global, text: &[u8], input: &mut S, out: &mut O) -> Status
     ensures input_counts { S.faults input.old ≤ S.faults input.new }
     ensures out_counts { O.faults out.old ≤ O.faults out.new }
+    ensures read_fault { result ≡ Status.ReadFault → Rose (S.faults input.old) (S.faults input.new) }
+    ensures write_fault { result ≡ Status.WriteFault → Rose (O.faults out.old) (O.faults out.new) }
+    ensures possible { CanCome result }
     ensures no_usage { result ≢ Status.Usage }
     ensures available { result ≢ Status.ModuleUnavailable }
     ensures untouched { ComesBefore result → (input.new ≡ input.old) × (out.new ≡ out.old) }
@@ -65,6 +68,9 @@ fn run_fetched<F: Shelf, S: Source, O: Sink>(
     ensures shelf_counts { F.faults shelf.old ≤ F.faults shelf.new }
     ensures input_counts { S.faults input.old ≤ S.faults input.new }
     ensures out_counts { O.faults out.old ≤ O.faults out.new }
+    ensures read_fault { result ≡ Status.ReadFault → Rose (S.faults input.old) (S.faults input.new) }
+    ensures write_fault { result ≡ Status.WriteFault → Rose (O.faults out.old) (O.faults out.new) }
+    ensures possible { CanCome result }
     ensures no_usage { result ≢ Status.Usage }
     ensures unavailable { result ≡ Status.ModuleUnavailable → Unfetched (F.texts shelf.old) name.now (F.faults shelf.old) (F.faults shelf.new) }
     ensures absent { LacksText (F.texts shelf.old) name.now → result ≡ Status.ModuleUnavailable }
@@ -90,6 +96,9 @@ fn run_module<F: Shelf, S: Source, O: Sink>(
     ensures shelf_counts { F.faults shelf.old ≤ F.faults shelf.new }
     ensures input_counts { S.faults input.old ≤ S.faults input.new }
     ensures out_counts { O.faults out.old ≤ O.faults out.new }
+    ensures read_fault { result ≡ Status.ReadFault → Rose (S.faults input.old) (S.faults input.new) }
+    ensures write_fault { result ≡ Status.WriteFault → Rose (O.faults out.old) (O.faults out.new) }
+    ensures possible { CanCome result }
     ensures no_usage { result ≢ Status.Usage }
     ensures unavailable { result ≡ Status.ModuleUnavailable → Unfetched (F.texts shelf.old) name.now (F.faults shelf.old) (F.faults shelf.new) }
     ensures absent { LacksText (F.texts shelf.old) name.now → (result ≡ Status.ModuleUnavailable) ⊎ (result ≡ Status.NoMemory) }
@@ -115,6 +124,9 @@ fn obey<F: Shelf, S: Source, O: Sink>(
     ensures shelf_counts { F.faults shelf.old ≤ F.faults shelf.new }
     ensures input_counts { S.faults input.old ≤ S.faults input.new }
     ensures out_counts { O.faults out.old ≤ O.faults out.new }
+    ensures read_fault { result ≡ Status.ReadFault → Rose (S.faults input.old) (S.faults input.new) }
+    ensures write_fault { result ≡ Status.WriteFault → Rose (O.faults out.old) (O.faults out.new) }
+    ensures possible { CanCome result }
     ensures usage { ComesWith result Status.Usage (meant words.now ≡ None) }
     ensures unavailable { (name : List ℕ) → meant words.now ≡ Some (run_of name) → result ≡ Status.ModuleUnavailable → Unfetched (F.texts shelf.old) name (F.faults shelf.old) (F.faults shelf.new) }
     ensures absent { (name : List ℕ) → meant words.now ≡ Some (run_of name) → LacksText (F.texts shelf.old) name → (result ≡ Status.ModuleUnavailable) ⊎ (result ≡ Status.NoMemory) }
@@ -171,6 +183,11 @@ pub fn averest<
         (w : Wiring) (trace : List ℕ) → IsBuilt text w → S.left input.old ≡ Some trace →
         Outcome w trace (O.stands out.old) (O.stands out.new) (S.left input.new)
         (Rose (F.faults shelf.old) (F.faults shelf.new)) (Rose (S.faults input.old) (S.faults input.new)) (Rose (O.faults out.old) (O.faults out.new)) result }
+
+    // A failed read or write is counted. No step has a fault yet, and there is no witness.
+    ensures read_fault { result ≡ Status.ReadFault → Rose (S.faults input.old) (S.faults input.new) }
+    ensures write_fault { result ≡ Status.WriteFault → Rose (O.faults out.old) (O.faults out.new) }
+    ensures possible { CanCome result }
 
     // Before a run nothing is taken and nothing put.
     ensures untouched { ComesBefore result → (input.new ≡ input.old) × (out.new ≡ out.old) }

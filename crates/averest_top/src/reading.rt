@@ -1,13 +1,18 @@
-ghost use Rattle.std.specs.Prelude.{◌≡◌};
+ghost use Rattle.std.specs.Prelude.{◌≡◌, ◌∷◌, [], None, false, map};
+ghost use Rattle.quartz_tree.specs.Least.{least_place};
+ghost use Rattle.quartz_tree.specs.Surfaces.{module_tree, written};
+ghost use Rattle.quartz_names.specs.Resolving.{has_call, module_name_breaks};
 ghost use Rattle.quartz_lexer.specs.Lexing.{AreTokensOf};
-ghost use Rattle.averest_top.specs.Refusals.{lex_refusal};
-ghost use Rattle.averest_top.specs.Reading.{ReadAs};
+ghost use Rattle.averest_top.specs.Refusals.{lex_refusal, names_refusal, parse_refusal};
+ghost use Rattle.averest_top.specs.Reading.{JudgedAs, ReadAs};
 ghost use Rattle.averest_top.specs.declared.reading.TextFault.TheVariants.{NoMemory as no_memory};
 
-use crate::combinational::wire;
+use crate::combinational::wire_module;
 use crate::logic::Logic;
 use quartz_lexer::{LexFault, Tokens, lex};
-use quartz_tree::{NoMemory, Place};
+use quartz_names::{NamesFault, has_call as calls, resolve};
+use quartz_parser::{ParseFault, parse_text};
+use quartz_tree::{Module, NoMemory, Place};
 use std::alloc::Global;
 use thiserror::Error;
 
@@ -39,20 +44,87 @@ impl From<LexFault> for TextFault {
     }
 }
 
+impl From<ParseFault> for TextFault {
+    ghost from_gives = { λ f e. e ≡ parse_refusal f };
+
+    fn from(fault: ParseFault) -> TextFault {
+        match fault {
+            ParseFault::S2(place) => TextFault::Refused { rule: 2, place },
+            ParseFault::NoMemory => TextFault::NoMemory,
+        }
+    }
+}
+
+impl From<NamesFault> for TextFault {
+    ghost from_gives = { λ f e. e ≡ names_refusal f };
+
+    fn from(fault: NamesFault) -> TextFault {
+        match fault {
+            NamesFault::S3(place) => TextFault::Refused { rule: 3, place },
+            NamesFault::NoMemory => TextFault::NoMemory,
+        }
+    }
+}
+
 // Where what isn't built yet is refused.
 const ORIGIN: Place = Place { line: 1, col: 1 };
 
-// The logic of tokens.
+// A text that breaks no rule and isn't built yet.
+const NOT_BUILT: TextFault = TextFault::Refused {
+    rule: 0,
+    place: ORIGIN,
+};
+
+// The logic of a module that breaks no rule.
+#[tactic(auto, using(crate::proofs::ReadingLemmas::formed, crate::proofs::ReadingLemmas::unformed))]
+fn form(alloc: Global, only: &Module) -> Result<Logic, TextFault>
+    requires names { least_place (module_name_breaks (module_tree only.now)) ≡ None }
+    requires calls { has_call (written only.now.body) ≡ false }
+    ensures { JudgedAs (module_tree only.now ∷ []) result }
+{
+    match wire_module(alloc, only)? {
+        Some(logic) => Ok(logic),
+        None => Err(NOT_BUILT),
+    }
+}
+
+// The logic of a module, or the first rule that it breaks.
+#[tactic(auto, using(crate::proofs::ReadingLemmas::with_calls))]
+fn judge(alloc: Global, only: &Module) -> Result<Logic, TextFault>
+    ensures { JudgedAs (module_tree only.now ∷ []) result }
+{
+    if calls(&only.body) {
+        return Err(NOT_BUILT);
+    }
+    match resolve(alloc, only) {
+        Ok(_) => form(alloc, only),
+        Err(fault) => Err(TextFault::from(fault)),
+    }
+}
+
+// The logic of a text's modules, of which there has to be one.
+#[tactic(auto, using(crate::proofs::ReadingLemmas::not_alone))]
+fn read_modules(alloc: Global, modules: &[Module]) -> Result<Logic, TextFault>
+    ensures { JudgedAs (map module_tree modules.now) result }
+{
+    if modules.len() == 1 {
+        judge(alloc, &modules[0])
+    } else {
+        Err(NOT_BUILT)
+    }
+}
+
+// The logic of a text's tokens.
 fn read_tokens(alloc: Global, tokens: &Tokens, text: &[u8]) -> Result<Logic, TextFault>
     requires { AreTokensOf text.now tokens.now }
     ensures { ReadAs text.now result }
 {
-    match wire(alloc, tokens, text)? {
-        Some(logic) => Ok(logic),
-        None => Err(TextFault::Refused {
-            rule: 0,
-            place: ORIGIN,
-        }),
+    match parse_text(alloc, tokens, text) {
+        Ok(modules) => {
+            let read = read_modules(alloc, &modules);
+            read
+        }
+        Err(fault) => Err(TextFault::from(fault)),
     }
 }
 

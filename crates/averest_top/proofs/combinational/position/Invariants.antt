@@ -1,6 +1,5 @@
 use Rattle.std.proofs.Common.{◌≡◌, ◌+◌, drop, map, option_map}
-use Rattle.averest_top.specs.Combinational.{number_of}
-use Rattle.averest_top.specs.Drafts.{param_of}
+use Rattle.averest_top.specs.Combinational.{param_of, number_of}
 use Rattle.averest_top.proofs.combinational.position.Given as goal
 
 abbrev pub invariant-loop-at : goal.invariant-loop-at

@@ -1,9 +1,11 @@
-use Rattle.std.proofs.Common.{rules}
-use Rattle.averest_top.proofs.ReadingLemmas.{built_by, form_refused}
+use Rattle.std.proofs.Common.{Err, Ok, map, ap, refl, rules}
+use Rattle.quartz_tree.specs.Surfaces.{module_tree}
+use Rattle.averest_top.proofs.ReadingLemmas.{read_as, grammar_refused}
 use Rattle.averest_top.proofs.reading.read_tokens.Goals as goal
 
-pub returns-in-Some : goal.returns-in-Some
-returns-in-Some c = built_by c.args.text.now c.args.tokens.now c.in-Some.logic c.requires (search rules)
+pub returns-in-Ok : goal.returns-in-Ok
+returns-in-Ok c =
+    read_as c.args.text.now c.args.tokens.now (map module_tree c.in-Ok.modules.items) c.read_modules-read.result c.requires c.in-Ok.ensures.derived (rw c.deref.ensures.value at c.read_modules-read.ensures)
 
-pub returns-in-None : goal.returns-in-None
-returns-in-None c = form_refused c.args.text.now c.args.tokens.now c.requires (search rules)
+pub returns-in-Err : goal.returns-in-Err
+returns-in-Err c = rw c.from.ensures (grammar_refused c.args.text.now c.args.tokens.now c.in-Err.fault c.requires (λ p e. c.in-Err.ensures.broken p (ap Err e)))
