@@ -1,5 +1,7 @@
-//! Rows of the whole program: the words, a text and a trace, and what comes of them.
+//! Rows of the whole program: the words, a text and a trace, and what comes of them; and texts of any bytes.
 #![tactic(auto)]
 
 #[cfg(test)]
 mod rows;
+#[cfg(test)]
+mod texts;

@@ -63,7 +63,7 @@ fn run<'a>(text: &'a [u8], trace: &'a [u8]) -> Case<'a> {
 
 #[test]
 fn runs_and_ends(rt: HostRuntime) -> Result<(), Fail> {
-    let table: [(&[u8], &[u8], &str); 15] = [
+    let table: [(&[u8], &[u8], &str); 16] = [
         (M, b"1 0\n1 1\n", "0|1\n0\n|"),
         (M, b"0 0\n0 1\n1 0\n", "0|0\n0\n1\n|"),
         (M, b"1 0\n1\n", "4|1\n|averest: bad input at step 1\n"),
@@ -73,6 +73,12 @@ fn runs_and_ends(rt: HostRuntime) -> Result<(), Fail> {
         (M, b"1  0\n", "4||averest: bad input at step 0\n"),
         (M, b"1 2\n", "4||averest: bad input at step 0\n"),
         (M, b"1 0 1\n", "4||averest: bad input at step 0\n"),
+        // a line that is far too long
+        (
+            M,
+            b"1 0 1 0 1 0 1 0 1 0 1 0 1 0 1 0 1 0 1 0 1 0 1 0 1 0 1 0 1 0 1 0 1 0 1 0 1 0 1 0 1 0 1 0 1 0 1 0 1 0 1 0 1 0 1 0 1 0 1 0 1 0 1 0 1 0 1 0 1 0 1 0 1 0 1 0 1 0 1 0 \n",
+            "4||averest: bad input at step 0\n",
+        ),
         // without inputs, and without outputs
         (
             b"module N(bool !a, !b) { always { } }",
