@@ -178,26 +178,26 @@ fn asked(alloc: Global, wish: Wish) -> Part
 }
 
 // A statement inside another one comes.
-fn nest(levels: u32, waiting: Open, open: &mut Vec<Open>) -> Result<Option<Turn>, NoMemory>
-    ensures { IfOk result (λ x. Leads x open.old.items open.new.items (λ next. Some (stmt (levels - 1) (opened waiting next)))) }
+fn nest(levels: u32, waiting: Open, frames: &mut Vec<Open>) -> Result<Option<Turn>, NoMemory>
+    ensures { IfOk result (λ x. Leads x frames.old.items frames.new.items (λ next. Some (stmt (levels - 1) (opened waiting next)))) }
 {
-    open.push(waiting)?;
+    frames.push(waiting)?;
     Ok(take(Marks::Zero, Part::Begin(levels.saturating_sub(1))))
 }
 
 // The body of an `abort` or `suspend` comes.
-fn guarded(levels: u32, mode: Mode, open: &mut Vec<Open>) -> Result<Option<Turn>, NoMemory>
-    ensures { IfOk result (λ x. Leads x open.old.items open.new.items (λ next. Some (guarded_state levels mode.abort mode.weak mode.immediate next))) }
+fn guarded(levels: u32, mode: Mode, frames: &mut Vec<Open>) -> Result<Option<Turn>, NoMemory>
+    ensures { IfOk result (λ x. Leads x frames.old.items frames.new.items (λ next. Some (guarded_state levels mode.abort mode.weak mode.immediate next))) }
 {
-    nest(levels, Open::Guard(mode), open)
+    nest(levels, Open::Guard(mode), frames)
 }
 
 // The same, where there is a level left.
-fn nest_inside(levels: u32, waiting: Open, open: &mut Vec<Open>) -> Result<Option<Turn>, NoMemory>
-    ensures { IfOk result (λ x. Leads x open.old.items open.new.items (λ next. only (nat_lt 1 levels) (stmt (levels - 1) (opened waiting next)))) }
+fn nest_inside(levels: u32, waiting: Open, frames: &mut Vec<Open>) -> Result<Option<Turn>, NoMemory>
+    ensures { IfOk result (λ x. Leads x frames.old.items frames.new.items (λ next. only (nat_lt 1 levels) (stmt (levels - 1) (opened waiting next)))) }
 {
     if 1 < levels {
-        nest(levels, waiting, open)
+        nest(levels, waiting, frames)
     } else {
         Ok(None)
     }
@@ -216,9 +216,9 @@ fn begin_mark(
     levels: u32,
     mark: Mark,
     place: Place,
-    open: &mut Vec<Open>,
+    frames: &mut Vec<Open>,
 ) -> Result<Option<Turn>, NoMemory>
-    ensures { IfOk result (λ x. Takes x open.old.items open.new.items (mark_token mark place) (stmt_on levels)) }
+    ensures { IfOk result (λ x. Takes x frames.old.items frames.new.items (mark_token mark place) (stmt_on levels)) }
 {
     let zero = Marks::Zero;
     let semicolon = Marks::One(Mark::Semicolon);
@@ -234,10 +234,10 @@ fn begin_mark(
         Mark::Next => Ok(take(paren, Part::TargetName(Aim::WriteNext(place)))),
         Mark::OpenBrace => Ok(block_begins(alloc, levels)),
         Mark::If => Ok(inside(levels, ask(alloc, paren, Wish::If(levels)))),
-        Mark::Loop => nest_inside(levels, Open::Loop(place), open),
-        Mark::Always => nest_inside(levels, Open::Always(place), open),
+        Mark::Loop => nest_inside(levels, Open::Loop(place), frames),
+        Mark::Always => nest_inside(levels, Open::Always(place), frames),
         Mark::While => Ok(inside(levels, ask(alloc, paren, Wish::While(levels, place)))),
-        Mark::Do => nest_inside(levels, Open::Do(place), open),
+        Mark::Do => nest_inside(levels, Open::Do(place), frames),
         Mark::Weak => Ok(inside(levels, take(zero, Part::AfterWeak(levels)))),
         _ => Ok(None),
     }
@@ -253,10 +253,10 @@ fn block_begins(alloc: Global, levels: u32) -> Option<Turn>
 }
 
 // A guarded statement, where there is a level left.
-fn guarded_inside(levels: u32, mode: Mode, open: &mut Vec<Open>) -> Result<Option<Turn>, NoMemory>
-    ensures { IfOk result (λ x. Leads x open.old.items open.new.items (λ next. only (nat_lt 1 levels) (guarded_state levels mode.abort mode.weak mode.immediate next))) }
+fn guarded_inside(levels: u32, mode: Mode, frames: &mut Vec<Open>) -> Result<Option<Turn>, NoMemory>
+    ensures { IfOk result (λ x. Leads x frames.old.items frames.new.items (λ next. only (nat_lt 1 levels) (guarded_state levels mode.abort mode.weak mode.immediate next))) }
 {
-    nest_inside(levels, Open::Guard(mode), open)
+    nest_inside(levels, Open::Guard(mode), frames)
 }
 
 // A statement begins.
@@ -265,12 +265,12 @@ fn begin(
     levels: u32,
     item: Item<'_>,
     place: Place,
-    open: &mut Vec<Open>,
+    frames: &mut Vec<Open>,
 ) -> Result<Option<Turn>, NoMemory>
-    ensures { IfOk result (λ x. Takes x open.old.items open.new.items (token item.entry place) (stmt_on levels)) }
+    ensures { IfOk result (λ x. Takes x frames.old.items frames.new.items (token item.entry place) (stmt_on levels)) }
 {
     match item {
-        Item::Mark(mark) => begin_mark(alloc, levels, mark, place, open),
+        Item::Mark(mark) => begin_mark(alloc, levels, mark, place, frames),
         Item::Preempt(abort) => {
             let weak = false;
             let immediate = false;
@@ -279,7 +279,7 @@ fn begin(
                 weak,
                 immediate,
             };
-            guarded_inside(levels, mode, open)
+            guarded_inside(levels, mode, frames)
         }
         Item::Name(name) => {
             let name = Name::new(alloc, name)?;
@@ -331,9 +331,9 @@ fn after_immediate(
     levels: u32,
     at: Place,
     item: Item<'_>,
-    open: &mut Vec<Open>,
+    frames: &mut Vec<Open>,
 ) -> Result<Option<Turn>, NoMemory>
-    ensures { IfOk result (λ x. (p : Place) → Takes x open.old.items open.new.items (token item.entry p) (after_immediate_on levels at)) }
+    ensures { IfOk result (λ x. (p : Place) → Takes x frames.old.items frames.new.items (token item.entry p) (after_immediate_on levels at)) }
 {
     let weak = false;
     let immediate = true;
@@ -349,15 +349,15 @@ fn after_immediate(
                 weak,
                 immediate,
             };
-            guarded_inside(levels, mode, open)
+            guarded_inside(levels, mode, frames)
         }
         _ => Ok(None),
     }
 }
 
 // What follows a `weak`.
-fn after_weak(levels: u32, item: Item<'_>, open: &mut Vec<Open>) -> Result<Option<Turn>, NoMemory>
-    ensures { IfOk result (λ x. (p : Place) → Takes x open.old.items open.new.items (token item.entry p) (after_weak_on levels)) }
+fn after_weak(levels: u32, item: Item<'_>, frames: &mut Vec<Open>) -> Result<Option<Turn>, NoMemory>
+    ensures { IfOk result (λ x. (p : Place) → Takes x frames.old.items frames.new.items (token item.entry p) (after_weak_on levels)) }
 {
     let weak = true;
     let immediate = false;
@@ -371,7 +371,7 @@ fn after_weak(levels: u32, item: Item<'_>, open: &mut Vec<Open>) -> Result<Optio
                 weak,
                 immediate,
             };
-            guarded(levels, mode, open)
+            guarded(levels, mode, frames)
         }
         _ => Ok(None),
     }
@@ -383,9 +383,9 @@ fn after_mode(
     weak: bool,
     immediate: bool,
     item: Item<'_>,
-    open: &mut Vec<Open>,
+    frames: &mut Vec<Open>,
 ) -> Result<Option<Turn>, NoMemory>
-    ensures { IfOk result (λ x. (p : Place) → Takes x open.old.items open.new.items (token item.entry p) (after_mode_on levels weak immediate)) }
+    ensures { IfOk result (λ x. (p : Place) → Takes x frames.old.items frames.new.items (token item.entry p) (after_mode_on levels weak immediate)) }
 {
     match item {
         Item::Preempt(abort) => {
@@ -394,7 +394,7 @@ fn after_mode(
                 weak,
                 immediate,
             };
-            guarded(levels, mode, open)
+            guarded(levels, mode, frames)
         }
         _ => Ok(None),
     }
@@ -522,13 +522,13 @@ fn go_on(
     block: Block,
     item: Item<'_>,
     place: Place,
-    open: &mut Vec<Open>,
+    frames: &mut Vec<Open>,
 ) -> Result<Option<Turn>, NoMemory>
-    ensures { IfOk result (λ x. Takes x open.old.items open.new.items (token item.entry place) (λ next. stmt_on block.levels (opened (Open.Block block) next))) }
+    ensures { IfOk result (λ x. Takes x frames.old.items frames.new.items (token item.entry place) (λ next. stmt_on block.levels (opened (Open.Block block) next))) }
 {
     let levels = block.levels;
-    open.push(Open::Block(block))?;
-    begin(alloc, levels, item, place, open)
+    frames.push(Open::Block(block))?;
+    begin(alloc, levels, item, place, frames)
 }
 
 // A block goes on, or ends.
@@ -537,9 +537,9 @@ fn ready(
     block: Block,
     item: Item<'_>,
     place: Place,
-    open: &mut Vec<Open>,
+    frames: &mut Vec<Open>,
 ) -> Result<Option<Turn>, NoMemory>
-    ensures { IfOk result (λ x. Takes x open.old.items open.new.items (token item.entry place) (ready_on block.levels block.decls.items (branches block) (map written block.statements.items))) }
+    ensures { IfOk result (λ x. Takes x frames.old.items frames.new.items (token item.entry place) (ready_on block.levels block.decls.items (branches block) (map written block.statements.items))) }
 {
     if is_mark(item, Mark::Bars) {
         let block = next_branch(alloc, block)?;
@@ -548,7 +548,7 @@ fn ready(
         let block = closed(block)?;
         Ok(take(Marks::Zero, Part::Done(block)))
     } else if 0 < block.levels {
-        go_on(alloc, block, item, place, open)
+        go_on(alloc, block, item, place, frames)
     } else {
         Ok(None)
     }
@@ -560,9 +560,9 @@ fn declare_or_go_on(
     locals: Locals,
     item: Item<'_>,
     place: Place,
-    open: &mut Vec<Open>,
+    frames: &mut Vec<Open>,
 ) -> Result<Option<Turn>, NoMemory>
-    ensures { IfOk result (λ x. Takes x open.old.items open.new.items (token item.entry place) (λ next t. step (part_state (Part.Locals locals) next) t)) }
+    ensures { IfOk result (λ x. Takes x frames.old.items frames.new.items (token item.entry place) (λ next t. step (part_state (Part.Locals locals) next) t)) }
 {
     match head(item) {
         Some(next) => Ok(take(next.marks, Part::LocalType(next.part, locals))),
@@ -573,7 +573,7 @@ fn declare_or_go_on(
                 branches: Vec::new(alloc),
                 statements: Vec::new(alloc),
             };
-            ready(alloc, block, item, place, open)
+            ready(alloc, block, item, place, frames)
         }
     }
 }
@@ -756,13 +756,13 @@ fn after_if(
     cond: Expr<Name>,
     yes: Surface,
     item: Item<'_>,
-    open: &mut Vec<Open>,
+    frames: &mut Vec<Open>,
 ) -> Result<Move, NoMemory>
-    ensures is { IfOk result (λ x. (p : Place) → Turns x open.old.items open.new.items (token item.entry p) (λ next t. step (part_state (Part.AfterIf levels cond yes) next) t)) }
-    ensures falls { IfOk result (λ x. Falls x (length open.new.items) (1 + 2 * length open.old.items)) }
+    ensures is { IfOk result (λ x. (p : Place) → Turns x frames.old.items frames.new.items (token item.entry p) (λ next t. step (part_state (Part.AfterIf levels cond yes) next) t)) }
+    ensures falls { IfOk result (λ x. Falls x (length frames.new.items) (1 + 2 * length frames.old.items)) }
 {
     if is_mark(item, Mark::Else) {
-        let next = nest(levels, Open::No(cond, yes), open)?;
+        let next = nest(levels, Open::No(cond, yes), frames)?;
         Ok(settle(next))
     } else {
         let alone = built::only_if(alloc, cond, yes)?;
@@ -771,11 +771,11 @@ fn after_if(
 }
 
 // The body comes, behind the condition's parenthesis.
-fn enter(levels: u32, waiting: Open, open: &mut Vec<Open>) -> Result<Turn, NoMemory>
-    ensures is { IfOk result (λ x. (k : Written → State) → turn_state x (open_next open.new.items k) ≡ expect Mark.Close (stmt (levels - 1) (opened waiting (open_next open.old.items k)))) }
+fn enter(levels: u32, waiting: Open, frames: &mut Vec<Open>) -> Result<Turn, NoMemory>
+    ensures is { IfOk result (λ x. (k : Written → State) → turn_state x (open_next frames.new.items k) ≡ expect Mark.Close (stmt (levels - 1) (opened waiting (open_next frames.old.items k)))) }
     ensures firm { IfOk result (λ x. (n : ℕ) → weight x.marks x.part n ≡ 0) }
 {
-    open.push(waiting)?;
+    frames.push(waiting)?;
     let marks = Marks::One(Mark::Close);
     let part = Part::Begin(levels.saturating_sub(1));
     Ok(Turn { marks, part })
@@ -796,15 +796,15 @@ fn wished(
     alloc: Global,
     wish: Wish,
     expr: Expr<Name>,
-    open: &mut Vec<Open>,
+    frames: &mut Vec<Open>,
 ) -> Result<Turn, NoMemory>
-    ensures is { IfOk result (λ x. (k : Written → State) → turn_state x (open_next open.new.items k) ≡ wish_next wish (open_next open.old.items k) (tree expr)) }
+    ensures is { IfOk result (λ x. (k : Written → State) → turn_state x (open_next frames.new.items k) ≡ wish_next wish (open_next frames.old.items k) (tree expr)) }
     ensures firm { IfOk result (λ x. (n : ℕ) → weight x.marks x.part n ≡ 0) }
 {
     match wish {
         Wish::Await(immediate, place) => Ok(conclude(built::wait(immediate, expr, place))),
-        Wish::If(levels) => enter(levels, Open::Yes(levels, expr), open),
-        Wish::While(levels, place) => enter(levels, Open::While(expr, place), open),
+        Wish::If(levels) => enter(levels, Open::Yes(levels, expr), frames),
+        Wish::While(levels, place) => enter(levels, Open::While(expr, place), frames),
         Wish::Do(body, place) => {
             let repeated = built::do_while(alloc, body, expr, place)?;
             Ok(conclude(repeated))
@@ -833,13 +833,13 @@ fn read(
     expr: Rated,
     wish: Wish,
     mut pending: Vec<Pending>,
-    open: &mut Vec<Open>,
+    frames: &mut Vec<Open>,
 ) -> Result<Turn, NoMemory>
-    ensures is { IfOk result (λ x. (k : Written → State) → turn_state x (open_next open.new.items k) ≡ expr_next pending.items (wish_next wish (open_next open.old.items k)) (tree expr.expr)) }
-    ensures falls { IfOk result (λ x. weight x.marks x.part (length open.new.items) < 1 + (length pending.items + 2 * length open.old.items)) }
+    ensures is { IfOk result (λ x. (k : Written → State) → turn_state x (open_next frames.new.items k) ≡ expr_next pending.items (wish_next wish (open_next frames.old.items k)) (tree expr.expr)) }
+    ensures falls { IfOk result (λ x. weight x.marks x.part (length frames.new.items) < 1 + (length pending.items + 2 * length frames.old.items)) }
 {
     match pending.pop() {
-        None => wished(alloc, wish, expr.expr, open),
+        None => wished(alloc, wish, expr.expr, frames),
         Some(waiting) => {
             let next = resume(alloc, expr, waiting, &mut pending)?;
             let reading = Reading {
@@ -862,10 +862,10 @@ fn expression(
     reading: Reading,
     item: Item<'_>,
     place: Place,
-    open: &mut Vec<Open>,
+    frames: &mut Vec<Open>,
 ) -> Result<Move, NoMemory>
-    ensures is { IfOk result (λ x. Turns x open.old.items open.new.items (token item.entry place) (λ next t. step (part_state (Part.Expr reading) next) t)) }
-    ensures falls { IfOk result (λ x. Falls x (length open.new.items) (1 + (length reading.pending.items + 2 * length open.old.items))) }
+    ensures is { IfOk result (λ x. Turns x frames.old.items frames.new.items (token item.entry place) (λ next t. step (part_state (Part.Expr reading) next) t)) }
+    ensures falls { IfOk result (λ x. Falls x (length frames.new.items) (1 + (length reading.pending.items + 2 * length frames.old.items))) }
 {
     let mut pending = reading.pending;
     let wish = reading.wish;
@@ -888,7 +888,7 @@ fn expression(
             }),
         })),
         Outcome::Over(expr) => {
-            let next = read(alloc, expr, wish, pending, open)?;
+            let next = read(alloc, expr, wish, pending, frames)?;
             Ok(Move::Past(next))
         }
         Outcome::Stuck => Ok(Move::Stuck),
@@ -961,31 +961,31 @@ pub fn offer(
     part: Part,
     item: Item<'_>,
     place: Place,
-    open: &mut Vec<Open>,
+    frames: &mut Vec<Open>,
 ) -> Result<Move, NoMemory>
-    ensures is { IfOk result (λ x. Turns x open.old.items open.new.items (token item.entry place) (λ next t. step (part_state part next) t)) }
-    ensures falls { IfOk result (λ x. Falls x (length open.new.items) (weight Marks.Zero part (length open.old.items))) }
+    ensures is { IfOk result (λ x. Turns x frames.old.items frames.new.items (token item.entry place) (λ next t. step (part_state part next) t)) }
+    ensures falls { IfOk result (λ x. Falls x (length frames.new.items) (weight Marks.Zero part (length frames.old.items))) }
 {
     match part {
-        Part::Expr(reading) => expression(alloc, reading, item, place, open),
+        Part::Expr(reading) => expression(alloc, reading, item, place, frames),
         Part::LocalType(part, locals) => Ok(local_type(part, locals, item, place)),
         Part::LocalInit(part, typing, name, at, locals) => {
             local_init(part, typing, name, at, locals, item, place)
         }
         Part::AfterTarget(name, at, aim) => Ok(after_target(alloc, name, at, aim, item)),
         Part::Aimed(aim, target) => Ok(Move::Past(aimed(alloc, aim, target))),
-        Part::AfterIf(levels, cond, yes) => after_if(alloc, levels, cond, yes, item, open),
+        Part::AfterIf(levels, cond, yes) => after_if(alloc, levels, cond, yes, item, frames),
         Part::Done(inner) => Ok(Move::Over(inner)),
         Part::Locals(locals) => {
-            let next = declare_or_go_on(alloc, locals, item, place, open)?;
+            let next = declare_or_go_on(alloc, locals, item, place, frames)?;
             Ok(settle(next))
         }
         Part::Ready(block) => {
-            let next = ready(alloc, block, item, place, open)?;
+            let next = ready(alloc, block, item, place, frames)?;
             Ok(settle(next))
         }
         Part::Begin(levels) => {
-            let next = begin(alloc, levels, item, place, open)?;
+            let next = begin(alloc, levels, item, place, frames)?;
             Ok(settle(next))
         }
         Part::LocalName(typing, locals) => {
@@ -996,15 +996,15 @@ pub fn offer(
         Part::AfterWord(name, at) => Ok(settle(after_word(alloc, name, at, item))),
         Part::Labelled => Ok(settle(labelled(alloc, item, place))),
         Part::AfterImmediate(levels, at) => {
-            let next = after_immediate(alloc, levels, at, item, open)?;
+            let next = after_immediate(alloc, levels, at, item, frames)?;
             Ok(settle(next))
         }
         Part::AfterWeak(levels) => {
-            let next = after_weak(levels, item, open)?;
+            let next = after_weak(levels, item, frames)?;
             Ok(settle(next))
         }
         Part::AfterMode(levels, weak, immediate) => {
-            let next = after_mode(levels, weak, immediate, item, open)?;
+            let next = after_mode(levels, weak, immediate, item, frames)?;
             Ok(settle(next))
         }
         Part::AfterEmit(at) => {
@@ -1028,12 +1028,12 @@ pub fn offer(
 }
 
 /// What is left of a statement of which this is to come, where the tokens end.
-pub fn leave(alloc: Global, part: Part, open: &mut Vec<Open>) -> Result<Leaving, NoMemory>
-    ensures is { IfOk result (λ x. (k : Written → State) → left x (open_next open.new.items k) ≡ ended (part_state part (open_next open.old.items k))) }
-    ensures falls { IfOk result (λ x. LeavesLess x (length open.new.items) (weight Marks.Zero part (length open.old.items))) }
+pub fn leave(alloc: Global, part: Part, frames: &mut Vec<Open>) -> Result<Leaving, NoMemory>
+    ensures is { IfOk result (λ x. (k : Written → State) → left x (open_next frames.new.items k) ≡ ended (part_state part (open_next frames.old.items k))) }
+    ensures falls { IfOk result (λ x. LeavesLess x (length frames.new.items) (weight Marks.Zero part (length frames.old.items))) }
 {
     match part {
-        Part::Expr(reading) => leave_expression(alloc, reading, open),
+        Part::Expr(reading) => leave_expression(alloc, reading, frames),
         Part::LocalType(part, locals) => match whole_type(part) {
             Some(typing) => Ok(in_place(Part::LocalName(typing, locals))),
             None => Ok(Leaving::Stuck),
@@ -1062,14 +1062,14 @@ pub fn leave(alloc: Global, part: Part, open: &mut Vec<Open>) -> Result<Leaving,
 fn leave_expression(
     alloc: Global,
     reading: Reading,
-    open: &mut Vec<Open>,
+    frames: &mut Vec<Open>,
 ) -> Result<Leaving, NoMemory>
-    ensures is { IfOk result (λ x. (k : Written → State) → left x (open_next open.new.items k) ≡ ended (part_state (Part.Expr reading) (open_next open.old.items k))) }
-    ensures falls { IfOk result (λ x. LeavesLess x (length open.new.items) (1 + (length reading.pending.items + 2 * length open.old.items))) }
+    ensures is { IfOk result (λ x. (k : Written → State) → left x (open_next frames.new.items k) ≡ ended (part_state (Part.Expr reading) (open_next frames.old.items k))) }
+    ensures falls { IfOk result (λ x. LeavesLess x (length frames.new.items) (1 + (length reading.pending.items + 2 * length frames.old.items))) }
 {
     match whole(reading.room, reading.piece) {
         Some(expr) => {
-            let next = read(alloc, expr, reading.wish, reading.pending, open)?;
+            let next = read(alloc, expr, reading.wish, reading.pending, frames)?;
             Ok(Leaving::Past(next))
         }
         None => Ok(Leaving::Stuck),

@@ -8,4 +8,4 @@ use Rattle.quartz_parser.proofs.statement.go_on.Goals as goal
 pub returns : goal.returns
 returns c =
     also c.begin.result c.begin.ensures
-    (λ o h k. h k ∙ ap (λ f. stmt_on c.args.block.levels f (token c.args.item c.args.place)) (open_pushed c.args.open.now.items _ (Block c.args.block) k c.in_ok-push.ensures.items))
+    (λ o h k. h k ∙ ap (λ f. stmt_on c.args.block.levels f (token c.args.item c.args.place)) (open_pushed c.args.frames.now.items _ (Block c.args.block) k c.in_ok-push.ensures.items))

@@ -6,5 +6,5 @@ use Rattle.quartz_parser.proofs.statement.read.Goals as goal
 
 pub returns-in_ok-next-in-Some-clause-is : goal.returns-in_ok-next-in-Some-clause-is
 returns-in_ok-next-in-Some-clause-is c = λ k.
-    c.in_ok-next-in-Some.ensures.is (wish_next c.args.wish (open_next c.args.open.now.items k))
-    ∙ expr_popped c.args.pending.items _ c.in-Some.waiting (wish_next c.args.wish (open_next c.args.open.now.items k)) (tree c.args.expr.expr) c.in-Some.ensures.items
+    c.in_ok-next-in-Some.ensures.is (wish_next c.args.wish (open_next c.args.frames.now.items k))
+    ∙ expr_popped c.args.pending.items _ c.in-Some.waiting (wish_next c.args.wish (open_next c.args.frames.now.items k)) (tree c.args.expr.expr) c.in-Some.ensures.items

@@ -7,8 +7,8 @@ use Rattle.quartz_parser.proofs.statement.ready.Goals as goal
 
 pub returns-in_ok-block : goal.returns-in_ok-block
 returns-in_ok-block c = λ k.
-    c.take.ensures (open_next c.args.open.now.items k)
-    ∙ ap Some (c.in_ok-block.ensures (open_next c.args.open.now.items k))
+    c.take.ensures (open_next c.args.frames.now.items k)
+    ∙ ap Some (c.in_ok-block.ensures (open_next c.args.frames.now.items k))
     ∙ sym (ready_bars _ _ _ _ _ (token c.args.item c.args.place) (sym (c.is_mark.ensures c.args.place) ∙ c.if-is_mark.true))
 
 pub returns-then-block-gt0 : goal.returns-then-block-gt0
