@@ -4,4 +4,6 @@
 #[cfg(test)]
 mod rows;
 #[cfg(test)]
+mod static_rules;
+#[cfg(test)]
 mod texts;

@@ -9,7 +9,7 @@ const M: &[u8] = b"module M(bool ?x, ?y, !a) { always { a = x & !y; } }";
 
 /// What is run, and which calls of the adapters fail.
 #[derive(Clone, Copy)]
-struct Case<'a> {
+pub(crate) struct Case<'a> {
     words: &'a [&'a str],
     text: &'a [u8],
     trace: &'a [u8],
@@ -27,7 +27,11 @@ fn names(alloc: Global, words: &[&str]) -> Result<Vec<Name>, Fail> {
 }
 
 /// The status's number, then the output and the report.
-fn outcome(rt: &(impl Threads + Sync), alloc: Global, case: Case) -> Result<String, Fail> {
+pub(crate) fn outcome(
+    rt: &(impl Threads + Sync),
+    alloc: Global,
+    case: Case,
+) -> Result<String, Fail> {
     let mut shelf = MemShelf::new(alloc, &[])?;
     shelf.add(alloc, &Name::new(alloc, "M")?, case.text)?;
     let mut input = MemSource::new(alloc, case.trace, &[1, 3, 2], case.failing_takes)?;
@@ -50,7 +54,7 @@ fn outcome(rt: &(impl Threads + Sync), alloc: Global, case: Case) -> Result<Stri
     Ok(format!(in alloc; "{number}|{written}|{reported}")?)
 }
 
-fn run<'a>(text: &'a [u8], trace: &'a [u8]) -> Case<'a> {
+pub(crate) fn run<'a>(text: &'a [u8], trace: &'a [u8]) -> Case<'a> {
     Case {
         words: &["run", "M"],
         text,
@@ -163,7 +167,10 @@ fn refuses_texts(rt: HostRuntime) -> Result<(), Fail> {
             unbuilt,
         ),
         (b"module N(bool ?x, !a, !b) { always { a = b; } }", unbuilt),
-        (b"module N(bool ?x, ?y) { always { x = y; } }", unbuilt),
+        (
+            b"module N(bool ?x, ?y) { always { x = y; } }",
+            "3||averest: refused S6 at 1:34\n",
+        ),
         (
             b"module N(bool ?x, !a) { always { a = z; } }",
             "3||averest: refused S3 at 1:38\n",

@@ -1,7 +1,9 @@
 -- What reading a text gives, and that it gives one thing.
-use Rattle.std.proofs.Common.{◌≡◌, ◌≢◌, ℕ, Bool, true, false, if◌then◌else◌, List, [], ◌∷◌, length, map, Option, Some, None, Result, Ok, Err, refl, sym, ap, subst, ◌∙◌}
+use Rattle.std.proofs.Common.{◌≡◌, ◌≢◌, ℕ, Bool, true, false, if◌then◌else◌, List, [], ◌∷◌, length, map, Option, Some, None, Result, Ok, Err, refl, sym, ap, ap₂, subst, ◌∙◌}
 use Rattle.quartz_tree.specs.declared.place.Place.{Place}
+use Rattle.quartz_tree.specs.Kernel.{Kernel}
 use Rattle.quartz_tree.specs.Least.{least_place}
+use Rattle.quartz_expr.specs.Vars.{Vars}
 use Rattle.quartz_tree.specs.Surfaces.{ModuleTree, module_tree}
 use Rattle.quartz_tree.specs.declared.surface.Module.{Module}
 use Rattle.quartz_lexer.specs.declared.fault.LexFault.{LexFault}
@@ -15,15 +17,18 @@ use Rattle.quartz_parser.specs.Parsing.{DerivesText, HasText, Breaks as Stops}
 use Rattle.quartz_parser.proofs.Agreement.{one_text}
 use Rattle.quartz_names.specs.declared.fault.NamesFault.{NamesFault}
 use Rattle.quartz_names.specs.declared.fault.NamesFault.TheVariants as naming
-use Rattle.quartz_names.specs.Resolving.{has_call, module_name_breaks}
+use Rattle.quartz_names.specs.Resolving.{has_call, module_name_breaks, resolved_body, resolved_vars}
+use Rattle.quartz_types.specs.declared.fault.TypeFault.{TypeFault}
+use Rattle.quartz_types.specs.declared.fault.TypeFault.TheVariants as typing
+use Rattle.quartz_types.specs.Rules.{first_break, with_rule}
 use Rattle.averest_top.specs.declared.logic.Logic.{Logic}
 use Rattle.averest_top.specs.declared.reading.TextFault.{TextFault}
 use Rattle.averest_top.specs.declared.reading.TextFault.TheVariants as fault
 use Rattle.averest_top.specs.Logic.{IsLogicOf}
 use Rattle.averest_top.specs.Combinational.{Wiring, wiring_of, wiring_in}
 use Rattle.averest_top.specs.Drafts.{Wires}
-use Rattle.averest_top.specs.Reading.{IsTextOf, IsBuilt, Refuses, by_tokens, by_grammar, by_rule, JudgedAs, ReadAs, with_rule, unbuilt, unless_wired, first_broken, refusal_of}
-use Rattle.averest_top.specs.Refusals.{lex_refusal, names_refusal, parse_refusal}
+use Rattle.averest_top.specs.Reading.{IsTextOf, IsBuilt, Refuses, by_tokens, by_grammar, by_rule, JudgedAs, ReadAs, TypesJudgedAs, or_later, unbuilt, unless_wired, first_broken, refusal_of}
+use Rattle.averest_top.specs.Refusals.{lex_refusal, names_refusal, parse_refusal, types_refusal}
 
 pub tokens_refused : (text : List ℕ) (f : LexFault) → ((p : Place) → f ≡ lexing.S1 p → Breaks text p) → ReadAs text (Err (lex_refusal f))
 tokens_refused text (lexing.S1 p) h = by_tokens text p (h p refl)
@@ -43,25 +48,48 @@ no_wiring : (o : Option Wiring) → Wires o None → o ≡ None
 no_wiring None h = refl
 no_wiring (Some w) h = absurd h
 
+-- what breaks a rule behind S3, and then the form
+abbrev behind_names : ModuleTree → Option (ℕ × Place)
+behind_names m = or_later (first_break (resolved_vars m) (resolved_body m)) (unless_wired (wiring_of m))
+
+-- a module without calls
+plain : (m : ModuleTree) → has_call m.body ≡ false → first_broken m ≡ with_rule 3 (least_place (module_name_breaks m)) (behind_names m)
+plain m c = ap (λ b. if b then unbuilt else with_rule 3 (least_place (module_name_breaks m)) (behind_names m)) c
+
+-- a module that breaks no rule of names
+named : (m : ModuleTree) → has_call m.body ≡ false → least_place (module_name_breaks m) ≡ None → first_broken m ≡ behind_names m
+named m c n = plain m c ∙ ap (λ o. with_rule 3 o (behind_names m)) n
+
 -- a module that breaks no rule before its form is asked
-asked : (m : ModuleTree) → has_call m.body ≡ false → least_place (module_name_breaks m) ≡ None → first_broken m ≡ unless_wired (wiring_of m)
-asked m c n = ap (λ b. if b then unbuilt else with_rule 3 (least_place (module_name_breaks m)) (unless_wired (wiring_of m))) c ∙ ap (λ o. with_rule 3 o (unless_wired (wiring_of m))) n
+asked : (m : ModuleTree) → has_call m.body ≡ false → least_place (module_name_breaks m) ≡ None → first_break (resolved_vars m) (resolved_body m) ≡ None → first_broken m ≡ unless_wired (wiring_of m)
+asked m c n t = named m c n ∙ ap (λ o. or_later o (unless_wired (wiring_of m))) t
 
-pub formed : (m : ModuleTree) (l : Logic) → has_call m.body ≡ false → least_place (module_name_breaks m) ≡ None → Wires (wiring_of m) (Some l) → JudgedAs (m ∷ []) (Ok l)
-formed m l c n h =
+pub formed : (m : ModuleTree) (l : Logic) → has_call m.body ≡ false → least_place (module_name_breaks m) ≡ None → first_break (resolved_vars m) (resolved_body m) ≡ None
+    → Wires (wiring_of m) (Some l) → JudgedAs (m ∷ []) (Ok l)
+formed m l c n t h =
     let parts = some_wiring (wiring_of m) l h in
-    (asked m c n ∙ ap unless_wired parts.1, parts)
+    (asked m c n t ∙ ap unless_wired parts.1, parts)
 
-pub unformed : (m : ModuleTree) → has_call m.body ≡ false → least_place (module_name_breaks m) ≡ None → Wires (wiring_of m) None → refusal_of (m ∷ []) ≡ unbuilt
-unformed m c n h = asked m c n ∙ ap unless_wired (no_wiring (wiring_of m) h)
+pub unformed : (m : ModuleTree) → has_call m.body ≡ false → least_place (module_name_breaks m) ≡ None → first_break (resolved_vars m) (resolved_body m) ≡ None
+    → Wires (wiring_of m) None → refusal_of (m ∷ []) ≡ unbuilt
+unformed m c n t h = asked m c n t ∙ ap unless_wired (no_wiring (wiring_of m) h)
 
 pub with_calls : (m : ModuleTree) → has_call m.body ≡ true → refusal_of (m ∷ []) ≡ unbuilt
-with_calls m c = ap (λ b. if b then unbuilt else with_rule 3 (least_place (module_name_breaks m)) (unless_wired (wiring_of m))) c
+with_calls m c = ap (λ b. if b then unbuilt else with_rule 3 (least_place (module_name_breaks m)) (behind_names m)) c
 
 pub badly_named : (m : ModuleTree) (f : NamesFault) → has_call m.body ≡ false → ((p : Place) → f ≡ naming.S3 p → least_place (module_name_breaks m) ≡ Some p) → JudgedAs (m ∷ []) (Err (names_refusal f))
-badly_named m (naming.S3 p) c h =
-    ap (λ b. if b then unbuilt else with_rule 3 (least_place (module_name_breaks m)) (unless_wired (wiring_of m))) c ∙ ap (λ o. with_rule 3 o (unless_wired (wiring_of m))) (h p refl)
+badly_named m (naming.S3 p) c h = plain m c ∙ ap (λ o. with_rule 3 o (behind_names m)) (h p refl)
 badly_named m naming.NoMemory c h = tt
+
+pub types_refused : (vs : Vars) (k : Kernel) (f : TypeFault) → ((r : ℕ) (p : Place) → f ≡ typing.Rule r p → first_break vs k ≡ Some (r, p)) → TypesJudgedAs vs k (Err (types_refusal f))
+types_refused vs k (typing.Rule r p) h = h r p refl
+types_refused vs k typing.NoMemory h = tt
+
+-- a module whose variables and body are judged, and break a rule
+pub badly_typed : (m : ModuleTree) (vs : Vars) (k : Kernel) (f : TextFault) → has_call m.body ≡ false → least_place (module_name_breaks m) ≡ None → vs ≡ resolved_vars m → k ≡ resolved_body m
+    → TypesJudgedAs vs k (Err f) → JudgedAs (m ∷ []) (Err f)
+badly_typed m vs k (fault.Refused r p) c n e g h = named m c n ∙ ap (λ o. or_later o (unless_wired (wiring_of m))) (sym (ap₂ first_break e g) ∙ h)
+badly_typed m vs k fault.NoMemory c n e g h = tt
 
 -- no module, or several
 pub not_alone : (ms : List Module) → length ms ≢ 1 → refusal_of (map module_tree ms) ≡ unbuilt

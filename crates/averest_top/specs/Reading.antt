@@ -1,11 +1,14 @@
 -- Which texts are built, and which are refused by which rule.
 use Rattle.std.specs.Prelude.{◌≡◌, ◌⊎◌, ℕ, List, [], ◌∷◌, Option, Some, None, if◌then◌else◌, Result, Ok, Err}
 use Rattle.quartz_tree.specs.declared.place.Place.{Place}
+use Rattle.quartz_tree.specs.Kernel.{Kernel}
 use Rattle.quartz_tree.specs.Least.{least_place}
 use Rattle.quartz_tree.specs.Surfaces.{ModuleTree}
 use Rattle.quartz_lexer.specs.Lexing.{Lexeme, Lexes, Breaks, origin, place_after}
 use Rattle.quartz_parser.specs.Parsing.{DerivesText, HasText, Breaks as Stops}
-use Rattle.quartz_names.specs.Resolving.{has_call, module_name_breaks}
+use Rattle.quartz_expr.specs.Vars.{Vars}
+use Rattle.quartz_names.specs.Resolving.{has_call, module_name_breaks, resolved_body, resolved_vars}
+use Rattle.quartz_types.specs.Rules.{first_break, with_rule}
 use Rattle.averest_top.specs.declared.logic.Logic.{Logic}
 use Rattle.averest_top.specs.declared.reading.TextFault.{TextFault}
 use Rattle.averest_top.specs.declared.reading.TextFault.TheVariants.{Refused, NoMemory}
@@ -18,10 +21,10 @@ pub record IsTextOf (text : List ℕ) (modules : List ModuleTree) : Type 0 where
   pub lexes : Lexes text tokens
   pub derives : DerivesText tokens modules
 
--- a rule, at the place where it is broken, before those that come later
-abbrev pub with_rule : ℕ → Option Place → Option (ℕ × Place) → Option (ℕ × Place)
-with_rule r (Some p) later = Some (r, p)
-with_rule r None later = later
+-- a rule that is broken, or else what comes later
+abbrev pub or_later : Option (ℕ × Place) → Option (ℕ × Place) → Option (ℕ × Place)
+or_later (Some broken) later = Some broken
+or_later None later = later
 
 -- rule 0, which stands for 'not built yet'
 abbrev pub unbuilt : Option (ℕ × Place)
@@ -31,10 +34,12 @@ abbrev pub unless_wired : Option Wiring → Option (ℕ × Place)
 unless_wired None = unbuilt
 unless_wired (Some w) = None
 
--- the first rule that a module breaks, and its least place: S3, and then 0 where it is of no form that is built yet. With a
--- call no rule is asked, since calls are not linked yet
+-- the first rule that a module breaks, and its least place: S3, then S4 to S7, and then 0 where it is of no form that is built
+-- yet. With a call no rule is asked, since calls are not linked yet
 abbrev pub first_broken : ModuleTree → Option (ℕ × Place)
-first_broken m = if has_call m.body then unbuilt else with_rule 3 (least_place (module_name_breaks m)) (unless_wired (wiring_of m))
+first_broken m =
+    if has_call m.body then unbuilt
+    else with_rule 3 (least_place (module_name_breaks m)) (or_later (first_break (resolved_vars m) (resolved_body m)) (unless_wired (wiring_of m)))
 
 -- the same of a text's modules, of which there has to be one
 abbrev pub refusal_of : List ModuleTree → Option (ℕ × Place)
@@ -54,6 +59,12 @@ pub data Refuses : List ℕ → (rule : ℕ) → Place → Type 0 where
   by_tokens : (text : List ℕ) (p : Place) → Breaks text p → Refuses text 1 p
   by_grammar : (text : List ℕ) (tokens : List Lexeme) (p : Place) → Lexes text tokens → Stops HasText tokens (place_after origin text) p → Refuses text 2 p
   by_rule : (text : List ℕ) (modules : List ModuleTree) (r : ℕ) (p : Place) → IsTextOf text modules → refusal_of modules ≡ Some (r, p) → Refuses text r p
+
+-- what judging variables and a body gives: that they break none of S4 to S7, or the first rule that they break, or want of memory
+abbrev pub TypesJudgedAs : Vars → Kernel → Result (Unit {0}) TextFault → Type 0
+TypesJudgedAs vs k (Ok _) = first_break vs k ≡ None
+TypesJudgedAs vs k (Err NoMemory) = Unit {0}
+TypesJudgedAs vs k (Err (Refused rule place)) = first_break vs k ≡ Some (rule, place)
 
 -- what judging modules gives: the logic of their wiring, or the first rule that they break, or want of memory
 abbrev pub JudgedAs : List ModuleTree → Result Logic TextFault → Type 0

@@ -1,10 +1,12 @@
--- How the faults of tokens, of the grammar and of names are refused.
+-- How the faults of tokens, of the grammar, of names and of types are refused.
 use Rattle.quartz_lexer.specs.declared.fault.LexFault.{LexFault}
 use Rattle.quartz_lexer.specs.declared.fault.LexFault.TheVariants as lexing
 use Rattle.quartz_parser.specs.declared.fault.ParseFault.{ParseFault}
 use Rattle.quartz_parser.specs.declared.fault.ParseFault.TheVariants as parsing
 use Rattle.quartz_names.specs.declared.fault.NamesFault.{NamesFault}
 use Rattle.quartz_names.specs.declared.fault.NamesFault.TheVariants as naming
+use Rattle.quartz_types.specs.declared.fault.TypeFault.{TypeFault}
+use Rattle.quartz_types.specs.declared.fault.TypeFault.TheVariants as typing
 use Rattle.averest_top.specs.declared.reading.TextFault.{TextFault}
 use Rattle.averest_top.specs.declared.reading.TextFault.TheVariants.{Refused, NoMemory}
 
@@ -19,3 +21,7 @@ parse_refusal parsing.NoMemory = NoMemory
 abbrev pub names_refusal : NamesFault → TextFault
 names_refusal (naming.S3 p) = Refused 3 p
 names_refusal naming.NoMemory = NoMemory
+
+abbrev pub types_refusal : TypeFault → TextFault
+types_refusal (typing.Rule r p) = Refused r p
+types_refusal typing.NoMemory = NoMemory

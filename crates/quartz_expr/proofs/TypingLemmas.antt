@@ -11,7 +11,7 @@ use Rattle.quartz_tree.specs.Tree.{Tree, truth, number, bits, named, element, on
 use Rattle.quartz_expr.specs.Vars.{Vars, base_of, is_array}
 use Rattle.quartz_expr.specs.Kinds.{Kind, boolean, numeric, vector, counted, kind_of_base, same_kind, is_numeric, is_boolean, is_vector, kind_if, kind_with, one_kind, two_kind, choice_kind, slice_width, slice_kind, kind, place_if, is_index, kind_breaks}
 use Rattle.quartz_expr.specs.Value.{width_in}
-use Rattle.quartz_expr.specs.Intervals.{is_inside, is_small, one_interval, two_interval, is_sound_two, is_sound_slice, is_sound_target, bits_interval, interval, bound_breaks}
+use Rattle.quartz_expr.specs.Intervals.{are_sound_bits, is_inside, is_small, one_interval, two_interval, is_sound_two, is_sound_slice, is_sound_target, bits_interval, interval, bound_breaks}
 use Rattle.quartz_expr.specs.Typed.{is_over, has_sound_bits}
 
 -- the operators by what they ask of their parts
@@ -97,6 +97,15 @@ pub both_true : (a b : Bool) → (a && b) ≡ true → (a ≡ true) × (b ≡ tr
 both_true true true e = (refl, refl)
 both_true true false e = absurd (cc)
 both_true false b e = absurd (cc)
+
+both_hold : (a b : Bool) → a ≡ true → b ≡ true → (a && b) ≡ true
+both_hold true true e f = refl
+both_hold true false e f = absurd (cc)
+both_hold false b e f = absurd (cc)
+
+right_holds : (a b : Bool) → b ≡ true → (a || b) ≡ true
+right_holds true b e = refl
+right_holds false b e = e
 
 had : (b : Bool) (k : Kind) (p : Place) → place_if (is_none (kind_if b k)) p ≡ [] → b ≡ true
 had true k p e = refl
@@ -210,11 +219,11 @@ module _ (vs : Vars) where
   typed_of (truth b p) o w e f = (boolean, refl, of_truth b p)
   typed_of (number n p) o w e f = let g = kept (nat_le n (2 ^ 62)) p f in (numeric, refl, of_number n p (grind (arith, nat_tests, g)))
   typed_of (bits w n p) o s e f =
-      let g = kept (nat_le w 32) p f in
-      let h = both_true (nat_le 1 w) (nat_lt 32 w || nat_lt n (2 ^ w)) s in
-      let low : 1 ≤ w = grind (arith, nat_tests, h.0) in
-      let high : w ≤ 32 = grind (arith, nat_tests, g) in
-      (vector w, ap (λ m. Some (vector m)) (counted_is w low high), of_bits w n p low high (grind (arith, nat_tests, h.1, high)))
+      let g = both_true (nat_le 1 w) (nat_le w 32 && nat_lt n (2 ^ w)) (kept (are_sound_bits w n) p f) in
+      let h = both_true (nat_le w 32) (nat_lt n (2 ^ w)) g.1 in
+      let low : 1 ≤ w = grind (arith, nat_tests, g.0) in
+      let high : w ≤ 32 = grind (arith, nat_tests, h.0) in
+      (vector w, ap (λ m. Some (vector m)) (counted_is w low high), of_bits w n p low high (grind (arith, nat_tests, h.1)))
   typed_of (named x p) o s e f =
       let g = not_broken (is_array vs x) p e in
       (kind_of_base (base_of vs x), ap (λ b. kind_if (not b) (kind_of_base (base_of vs x))) g, of_named x p _ (grind (arith, nat_tests, o)) g refl)
@@ -300,3 +309,30 @@ module _ (vs : Vars) where
         of_to_bv a n q p (subst (Typed vs a) (same_is b.0 numeric v) b.2) low high (kept _ p h'.1),
       )
   typed_of (paren a p) o s e f = let b = typed_of a o s e f in (b.0, b.1, of_paren a p b.0 b.2)
+
+-- bits that keep their bounds are written with a digit at least, and their value fits their digits
+sound_bits : (w n : ℕ) → are_sound_bits w n ≡ true → (nat_le 1 w && (nat_lt 32 w || nat_lt n (2 ^ w))) ≡ true
+sound_bits w n h =
+    let g = both_true (nat_le 1 w) (nat_le w 32 && nat_lt n (2 ^ w)) h in
+    let k = both_true (nat_le w 32) (nat_lt n (2 ^ w)) g.1 in
+    both_hold (nat_le 1 w) (nat_lt 32 w || nat_lt n (2 ^ w)) g.0 (right_holds (nat_lt 32 w) (nat_lt n (2 ^ w)) k.1)
+
+-- so it is in an expression that breaks no bound
+pub written_of : (vs : Vars) (t : Tree ℕ) → bound_breaks vs t ≡ [] → has_sound_bits t ≡ true
+written_of vs (truth b p) f = refl
+written_of vs (number n p) f = refl
+written_of vs (bits w n p) f = sound_bits w n (kept (are_sound_bits w n) p f)
+written_of vs (named x p) f = refl
+written_of vs (element x i p) f = written_of vs i f
+written_of vs (one op a p) f = written_of vs a (none_left (bound_breaks vs a) _ f).0
+written_of vs (two op a b p) f =
+    let h = none_left (bound_breaks vs a) _ f in
+    both_hold (has_sound_bits a) (has_sound_bits b) (written_of vs a h.0) (written_of vs b (none_left (bound_breaks vs b) _ h.1).0)
+written_of vs (choice c a b p) f =
+    let h = none_left (bound_breaks vs c) _ f in
+    let k = none_left (bound_breaks vs a) _ h.1 in
+    both_hold (has_sound_bits c) (has_sound_bits a && has_sound_bits b) (written_of vs c h.0) (both_hold (has_sound_bits a) (has_sound_bits b) (written_of vs a k.0) (written_of vs b k.1))
+written_of vs (slice a high low p) f = written_of vs a (none_left (bound_breaks vs a) _ f).0
+written_of vs (to_nat a p) f = written_of vs a f
+written_of vs (to_bv a n q p) f = written_of vs a (none_left (bound_breaks vs a) _ f).0
+written_of vs (paren a p) f = written_of vs a f

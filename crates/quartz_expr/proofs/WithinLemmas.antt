@@ -15,7 +15,7 @@ use Rattle.quartz_expr.specs.Values.{Values, elements_in, element_at, of_bool, i
 use Rattle.quartz_expr.specs.Vars.{Vars, base_of, is_array}
 use Rattle.quartz_expr.specs.Kinds.{Kind, boolean, numeric, vector, counted, kind_of_base, same_kind, is_numeric, is_vector, kind_if, kind_with, one_kind, two_kind, choice_kind, slice_width, slice_kind, kind}
 use Rattle.quartz_expr.specs.Value.{value, apply_two, complement, joined, bits_of, width_in}
-use Rattle.quartz_expr.specs.Intervals.{Interval, span, only, Lies, is_inside, sound_or_nought, is_sound_base, is_sound_length, is_sound_type, base_interval, range_of, kind_interval, is_small, hull, two_interval, is_sound_two, is_sound_width, is_sound_slice, is_sound_target, bits_interval, interval}
+use Rattle.quartz_expr.specs.Intervals.{Interval, are_sound_bits, span, only, Lies, is_inside, sound_or_nought, is_sound_base, is_sound_length, is_sound_type, base_interval, range_of, kind_interval, is_small, hull, two_interval, is_sound_two, is_sound_width, is_sound_slice, is_sound_target, bits_interval, interval}
 use Rattle.quartz_expr.specs.Typed.{Fits, AreSound, IsTyped, have_sound_types}
 use Rattle.quartz_expr.specs.Computable.{IsSmall, Suits, IsComputable}
 use Rattle.quartz_expr.proofs.OperatorLemmas.{sum_lies, difference_lies, negated_lies, product_lies, quotient_lies, remainder_lies, hull_left, hull_right, bool_lies, and_lies, or_lies, xor_lies, slice_lies, flipped_lies, cat_lies, element_lies}
@@ -335,7 +335,7 @@ module _ (vs : Vars) (env : Values) (types : have_sound_types vs ≡ true) (fits
       let e : nat_le n (2 ^ 62) ≡ true = grind (arith, nat_tests) in
       of_number_kind _ _ (within_bound _ _ _ e (record { above = omega (arith, ints); below = omega (arith, ints) })) (record { from = omega (arith, ints); upto = omega (arith, ints) })
   sound _ _ (of_bits w n p low high h) =
-      let e : nat_le w 32 ≡ true = grind (arith, nat_tests) in
+      let e : are_sound_bits w n ≡ true = grind (arith, nat_tests) in
       of_bits_kind (vector w) _ _ (low, high) (within_bound _ _ _ e (record { above = omega (arith, ints); below = omega (arith, ints) })) (record { above = omega (arith, ints); below = omega (arith, ints, h) })
   sound _ _ (of_named x p k h a e) = element_value x k (pos 0) h e
   sound _ _ (of_element x i p k h a t e) = element_value x k (value vs env i) h e

@@ -160,11 +160,15 @@ is_sound_target n = nat_le 1 n && nat_le n 32
 abbrev pub bits_interval : ℕ → Interval
 bits_interval n = span (pos 0) (pos (2 ^ n - 1))
 
+-- bits have 1 to 32 digits, and a value that these can write
+abbrev pub are_sound_bits : (width value : ℕ) → Bool
+are_sound_bits w n = nat_le 1 w && (nat_le w 32 && nat_lt n (2 ^ w))
+
 -- the interval of an expression; a part that breaks a bound counts as 0..0 for what stands above it
 abbrev pub interval : Vars → Tree ℕ → Interval
 interval vs (truth b _) = only (of_bool b)
 interval vs (number n _) = sound_or_nought (nat_le n (2 ^ 62)) (only (pos n))
-interval vs (bits w n _) = sound_or_nought (nat_le w 32) (only (pos n))
+interval vs (bits w n _) = sound_or_nought (are_sound_bits w n) (only (pos n))
 interval vs (named x _) = range_of vs x
 interval vs (element x _ _) = range_of vs x
 interval vs (one op a p) =
@@ -184,7 +188,7 @@ interval vs (paren a _) = interval vs a
 abbrev pub bound_breaks : Vars → Tree ℕ → List Place
 bound_breaks vs (truth _ _) = []
 bound_breaks vs (number n p) = place_if (not (nat_le n (2 ^ 62))) p
-bound_breaks vs (bits w _ p) = place_if (not (nat_le w 32)) p
+bound_breaks vs (bits w n p) = place_if (not (are_sound_bits w n)) p
 bound_breaks vs (named _ _) = []
 bound_breaks vs (element _ i _) = bound_breaks vs i
 bound_breaks vs (one op a p) = bound_breaks vs a ++ place_if (not (is_small (one_interval op (kind vs (one op a p)) (interval vs a)))) p

@@ -17,7 +17,7 @@ pub enum ExprKind {
 }
 
 /// The width, or 33 outside 1 to 32.
-pub(crate) fn counted_width(width: u128) -> u32
+pub fn counted_width(width: u128) -> u32
     ensures { result ≡ counted width }
 {
     if 1 <= width && width <= 32 {
@@ -93,7 +93,7 @@ fn kind_if(parts_have: bool, kind: ExprKind) -> Option<ExprKind>
     if parts_have { Some(kind) } else { None }
 }
 
-pub(crate) fn kind_of_one(op: Unary, part: Option<ExprKind>) -> Option<ExprKind>
+pub fn kind_of_one(op: Unary, part: Option<ExprKind>) -> Option<ExprKind>
     ensures { result ≡ kind_with part (one_kind op) }
 {
     match (op, part?) {
@@ -103,11 +103,7 @@ pub(crate) fn kind_of_one(op: Unary, part: Option<ExprKind>) -> Option<ExprKind>
     }
 }
 
-pub(crate) fn kind_of_two(
-    op: Binary,
-    left: Option<ExprKind>,
-    right: Option<ExprKind>,
-) -> Option<ExprKind>
+pub fn kind_of_two(op: Binary, left: Option<ExprKind>, right: Option<ExprKind>) -> Option<ExprKind>
     ensures { result ≡ kind_with left (λ k. kind_with right (two_kind op k)) }
 {
     kind_between(op, left?, right?)
@@ -145,7 +141,7 @@ fn kind_of_cat(left: ExprKind, right: ExprKind) -> Option<ExprKind>
     }
 }
 
-pub(crate) fn kind_of_choice(
+pub fn kind_of_choice(
     cond: Option<ExprKind>,
     yes: Option<ExprKind>,
     no: Option<ExprKind>,
@@ -155,11 +151,7 @@ pub(crate) fn kind_of_choice(
     kind_if(is_boolean(cond?) && is_same_kind(yes?, no?), yes?)
 }
 
-pub(crate) fn kind_of_slice(
-    high: u128,
-    low: Option<u128>,
-    part: Option<ExprKind>,
-) -> Option<ExprKind>
+pub fn kind_of_slice(high: u128, low: Option<u128>, part: Option<ExprKind>) -> Option<ExprKind>
     ensures { result ≡ kind_with part (slice_kind high low) }
 {
     let has_bits = is_vector(part?);
@@ -180,7 +172,7 @@ fn width_of_slice(high: u128, low: u128) -> u32
 }
 
 /// The kind of `x`.
-pub(crate) fn kind_of_name(var: u32, vars: &[Var]) -> Option<ExprKind>
+pub fn kind_of_name(var: u32, vars: &[Var]) -> Option<ExprKind>
     ensures { result ≡ kind_if (not (is_array vars.now var)) (kind_of_base (base_of vars.now var)) }
 {
     kind_if(
@@ -190,7 +182,7 @@ pub(crate) fn kind_of_name(var: u32, vars: &[Var]) -> Option<ExprKind>
 }
 
 /// The kind of `x[i]`.
-pub(crate) fn kind_of_element(var: u32, index: Option<ExprKind>, vars: &[Var]) -> Option<ExprKind>
+pub fn kind_of_element(var: u32, index: Option<ExprKind>, vars: &[Var]) -> Option<ExprKind>
     ensures { result ≡ kind_with index (λ k. kind_if (is_array vars.now var && is_numeric k) (kind_of_base (base_of vars.now var))) }
 {
     kind_if(
@@ -200,14 +192,14 @@ pub(crate) fn kind_of_element(var: u32, index: Option<ExprKind>, vars: &[Var]) -
 }
 
 /// The kind of `bv2nat(part)`.
-pub(crate) fn kind_of_number(part: Option<ExprKind>) -> Option<ExprKind>
+pub fn kind_of_number(part: Option<ExprKind>) -> Option<ExprKind>
     ensures { result ≡ kind_with part (λ k. kind_if (is_vector k) numeric) }
 {
     kind_if(is_vector(part?), ExprKind::Numeric)
 }
 
 /// The kind of `nat2bv(part, width)`.
-pub(crate) fn kind_of_bits(part: Option<ExprKind>, width: u128) -> Option<ExprKind>
+pub fn kind_of_bits(part: Option<ExprKind>, width: u128) -> Option<ExprKind>
     ensures { result ≡ kind_with part (λ k. kind_if (is_numeric k) (vector (counted width))) }
 {
     kind_if(is_numeric(part?), ExprKind::Vector(counted_width(width)))

@@ -12,7 +12,10 @@ pub use act::{Act, Kept};
 pub use env::Env;
 pub use evaluate::{bad, eval};
 pub use fault::lesser_of;
-pub use kind::{ExprKind, kind_of};
+pub use kind::{
+    ExprKind, counted_width, kind_of, kind_of_bits, kind_of_choice, kind_of_element, kind_of_name,
+    kind_of_number, kind_of_one, kind_of_slice, kind_of_two,
+};
 pub use laws::{
     coherence_is_soundness, conflicts_are_differences, delayed_abort_starts_as_its_body,
     not_instant_stays, reaction_is_one, runs_look_back, sequence_acts_in_order,

@@ -1,0 +1,5 @@
+pub mod BoundLemmas
+pub mod EndLemmas
+pub mod LeastSteps
+pub mod SoundLemmas
+pub mod WidthLemmas
