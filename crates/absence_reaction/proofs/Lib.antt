@@ -1,0 +1,6 @@
+pub mod ArmLemmas
+pub mod CopyLemmas
+pub mod CopyMeaning
+pub mod ElementLemmas
+pub mod ElementMeaning
+pub mod WriteLemmas

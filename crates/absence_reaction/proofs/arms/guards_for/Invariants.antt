@@ -1,0 +1,7 @@
+use Rattle.std.proofs.Common.{◌≡◌, map, take}
+use Rattle.aif_cells.specs.Tree.{tree}
+use Rattle.absence_reaction.specs.Closing.{arms_for, disagrees}
+use Rattle.absence_reaction.proofs.arms.guards_for.Given as goal
+
+abbrev pub invariant-loop-action : goal.invariant-loop-action
+invariant-loop-action l = map tree l.guards.items ≡ map (λ a. a.0) (arms_for l.element (take l.action-index l.actions))

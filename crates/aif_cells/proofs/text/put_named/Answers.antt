@@ -1,0 +1,13 @@
+use Rattle.std.proofs.Common.{◌++◌}
+use Rattle.std.specs.Prelude.{codes}
+use Rattle.aif_cells.proofs.PutLemmas.{on_err, part_first, part_later}
+use Rattle.aif_cells.proofs.text.put_named.Goals as goal
+
+pub returns-in_err-put-clause-begun : goal.returns-in_err-put-clause-begun
+returns-in_err-put-clause-begun g c = on_err _ (part_first _ _ (c.args.word.now) ((c.args.var.now.decl.name) ++ (codes " ")) c.in_err-put.ensures.begun)
+
+pub returns-in_err-put_name-clause-begun : goal.returns-in_err-put_name-clause-begun
+returns-in_err-put_name-clause-begun g c = on_err _ (part_later _ _ _ (c.args.word.now) ((c.args.var.now.decl.name) ++ (codes " ")) c.in_ok-put.ensures.gained (part_first _ _ (c.args.var.now.decl.name) (codes " ") c.in_err-put_name.ensures.begun))
+
+pub returns-in_err-put-2-clause-begun : goal.returns-in_err-put-2-clause-begun
+returns-in_err-put-2-clause-begun g c = on_err _ (part_later _ _ _ (c.args.word.now) ((c.args.var.now.decl.name) ++ (codes " ")) c.in_ok-put.ensures.gained (part_later _ _ _ (c.args.var.now.decl.name) (codes " ") c.in_ok-put_name.ensures.gained (c.in_err-put-2.ensures.begun)))

@@ -1,0 +1,9 @@
+pub mod Aif
+pub mod Built
+pub mod Dependences
+pub mod Order
+pub mod Put
+pub mod Solution
+pub mod Text
+pub mod Tree
+pub mod Worth

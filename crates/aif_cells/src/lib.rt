@@ -1,0 +1,25 @@
+//! Guarded actions as cells: references, trees, cells, registers, actions, monitors, and their text.
+#![tactic(auto)]
+
+mod aif;
+mod cells;
+mod laws;
+mod making;
+mod piece;
+mod reference;
+mod text;
+mod tree;
+mod tree_text;
+mod valuation;
+
+pub use aif::{Aif, Order, count_elements};
+pub use cells::{Action, Cell, Made, Monitor, Path, Register};
+pub use laws::extension_keeps_equations;
+pub use making::{add_cell, any_of, join};
+pub use reference::Ref;
+pub use text::write_text;
+pub use tree::{Tree, TreeOne, TreeTwo};
+pub use valuation::{value_of, worth_of};
+
+#[cfg(test)]
+mod tests;
