@@ -6,10 +6,11 @@ use Rattle.std.proofs.lemmas.Bool.Decides.{Decides-eqb}
 use Rattle.quartz_tree.specs.declared.declare.Decl.{Decl}
 use Rattle.quartz_tree.specs.declared.declare.Var.{Var}
 use Rattle.quartz_tree.specs.declared.stmt.Stmt.{Stmt}
-use Rattle.quartz_tree.specs.Kernel.{kernel, kernels}
+use Rattle.quartz_tree.specs.Kernel.{Kernel, kernel, kernels, nothing, pause, write, choose, seq, par, loop, guard, local}
 use Rattle.quartz_names.specs.Resolving.{variables_from}
 use Rattle.quartz_names.specs.Starts.{start_value}
 use Rattle.quartz_names.specs.Targets.{all_next_targets, is_among, next_targets}
+use Rattle.quartz_names.specs.Unscoped.{unscoped}
 
 -- a statement's targets are added
 pub targets_step : (all old new : List ℕ) (left rest : List Stmt) (s : Stmt) → left ≡ s ∷ rest → new ≡ old ++ next_targets (kernel s) → all ≡ old ++ all_next_targets (kernels (map kernel left))
@@ -63,3 +64,15 @@ or_false false = refl
 -- once no target is left, the flags are those of all
 pub marks_done : (all left : List ℕ) (f : Bool) (x : ℕ) → left ≡ [] → is_among all x ≡ (f || is_among left x) → f ≡ is_among all x
 marks_done all left f x e h = sym (h ∙ ap (λ l. f || is_among l x) e ∙ or_false f)
+
+-- scopes around a statement add no targets
+pub targets_unscoped : (k : Kernel) → next_targets (unscoped k) ≡ next_targets k
+targets_unscoped nothing = refl
+targets_unscoped pause = refl
+targets_unscoped (write x i e d p q) = refl
+targets_unscoped (choose c a b) = refl
+targets_unscoped (seq ks) = refl
+targets_unscoped (par ks) = refl
+targets_unscoped (loop k c p) = refl
+targets_unscoped (guard a w i k c) = refl
+targets_unscoped (local x k) = targets_unscoped k

@@ -1,7 +1,10 @@
+pub mod Laws
 pub mod NameRules
 pub mod Numbering
+pub mod Numbered
 pub mod Resolving
 pub mod Scopes
 pub mod Starts
 pub mod Targets
+pub mod Unscoped
 pub mod Walks

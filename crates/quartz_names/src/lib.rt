@@ -6,9 +6,11 @@ mod constant;
 mod expression;
 mod fault;
 mod kernel;
+mod law;
 mod names;
 mod place;
 mod resolving;
+mod scope;
 mod target;
 mod walk;
 
@@ -17,8 +19,10 @@ pub use constant::{
     Span, has_kind_of, is_sound_base, is_sound_length, is_within, start_value, type_range,
 };
 pub use fault::NamesFault;
+pub use law::{marks_are_targets, resolved_is_numbered};
 pub use place::{lesser_place, place_if};
 pub use resolving::{Resolved, resolve};
+pub use scope::unscoped;
 
 #[cfg(test)]
 mod tests;

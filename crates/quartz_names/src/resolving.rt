@@ -1,9 +1,10 @@
-ghost use Rattle.std.specs.Prelude.{◌≡◌, ◌^◌, ◌<◌, IfOk, IsErrOf, None, OnOk, Some, [], false, length};
+ghost use Rattle.std.specs.Prelude.{◌≡◌, ◌^◌, ◌<◌, IfOk, IsErrOf, None, OnOk, Some, [], false, length, true};
 ghost use Rattle.quartz_tree.specs.declared.place.Place.{Place};
 ghost use Rattle.quartz_tree.specs.Kernel.{kernel};
 ghost use Rattle.quartz_tree.specs.Least.{least_place};
 ghost use Rattle.quartz_tree.specs.Surfaces.{module_tree, written};
 ghost use Rattle.quartz_names.specs.Resolving.{declarations, has_call, module_name_breaks, resolved_body, resolved_vars, variables_from};
+ghost use Rattle.quartz_names.specs.Numbered.{IsResolved, Resolves, is_numbered};
 ghost use Rattle.quartz_names.specs.Scopes.{no_names};
 ghost use Rattle.quartz_names.specs.Starts.{start_value};
 ghost use Rattle.quartz_names.specs.Targets.{next_targets};
@@ -75,6 +76,9 @@ pub fn resolve(alloc: Global, module: &Module) -> Result<Resolved, NamesFault>
     ensures body { IfOk result (λ r. kernel r.body ≡ resolved_body (module_tree «module».now)) }
     ensures vars { IfOk result (λ r. r.vars ≡ resolved_vars (module_tree «module».now)) }
     ensures few { IfOk result (λ r. length r.vars < 2 ^ 32) }
+    ensures resolves { IfOk result (λ r. Resolves «module».now r) }
+    ensures resolved { IfOk result (λ r. IsResolved r) }
+    ensures numbered { IfOk result (λ r. is_numbered r.vars (kernel r.body) ≡ true) }
     ensures unbroken { OnOk result (least_place (module_name_breaks (module_tree «module».now)) ≡ None) }
     ensures broken { (p : Place) → IsErrOf result (NamesFault.S3 p) → least_place (module_name_breaks (module_tree «module».now)) ≡ Some p }
 {

@@ -2,13 +2,24 @@ ghost use Rattle.std.specs.Prelude.{◌≡◌, ◌++◌, ◌<◌, ℕ, IfOk, OnO
 ghost use Rattle.quartz_tree.specs.Kernel.{kernel, kernels};
 ghost use Rattle.quartz_names.specs.Targets.{all_next_targets, is_among, next_targets};
 
+use crate::scope::unscoped;
 use quartz_tree::{NoMemory, Stmt};
 use sqlite_items::Items;
 use std::alloc::Global;
 
 // Adds the targets of the statement's delayed writes.
 #[cycle(targets)]
+#[tactic(auto, using(crate::proofs::TargetLemmas::targets_unscoped))]
 fn add_targets(targets: &mut Vec<u32>, stmt: &Stmt) -> Result<(), NoMemory>
+    ensures { OnOk result (targets.new.items ≡ targets.old.items ++ next_targets (kernel stmt.now)) }
+{
+    add_targets_inside(targets, unscoped(stmt))?;
+    Ok(())
+}
+
+// Adds the targets of a statement without the scopes around it.
+#[cycle(targets)]
+fn add_targets_inside(targets: &mut Vec<u32>, stmt: &Stmt) -> Result<(), NoMemory>
     ensures { OnOk result (targets.new.items ≡ targets.old.items ++ next_targets (kernel stmt.now)) }
 {
     match stmt {

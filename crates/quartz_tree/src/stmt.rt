@@ -5,7 +5,7 @@ use crate::place::Place;
 ///
 /// The place of a write is its first token, and `target_place` that of the target's name. The place
 /// of a loop is its first token.
-#[derive(Debug, Drop)]
+#[derive(Debug)]
 pub enum Stmt {
     Nothing,
     Pause,
@@ -41,4 +41,44 @@ pub enum Stmt {
         var: u32,
         body: Box<Stmt>,
     },
+}
+
+/// A loop over scopes, since a block's head makes as many, one in another, as it declares names.
+impl Drop for Stmt {
+    fn drop(mut self) {
+        loop {
+            match self {
+                Stmt::Local { var: _, body } => self = Box::into_inner(body),
+                Stmt::Nothing => return,
+                Stmt::Pause => return,
+                Stmt::Write {
+                    var: _,
+                    index: _,
+                    value: _,
+                    delayed: _,
+                    place: _,
+                    target_place: _,
+                } => return,
+                Stmt::Choose {
+                    cond: _,
+                    yes: _,
+                    no: _,
+                } => return,
+                Stmt::Seq(_) => return,
+                Stmt::Par(_) => return,
+                Stmt::Loop {
+                    body: _,
+                    cond: _,
+                    place: _,
+                } => return,
+                Stmt::Guard {
+                    abort: _,
+                    weak: _,
+                    immediate: _,
+                    body: _,
+                    cond: _,
+                } => return,
+            }
+        }
+    }
 }

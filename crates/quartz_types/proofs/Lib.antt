@@ -2,4 +2,5 @@ pub mod BoundLemmas
 pub mod EndLemmas
 pub mod LeastSteps
 pub mod SoundLemmas
+pub mod UnscopedLemmas
 pub mod WidthLemmas

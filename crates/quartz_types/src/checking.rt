@@ -2,6 +2,7 @@ ghost use Rattle.std.specs.Prelude.{◌≡◌, ◌↔◌, ℕ, IfOk, IsErrOf, No
 ghost use Rattle.quartz_tree.specs.declared.place.Place.{Place};
 ghost use Rattle.quartz_tree.specs.Kernel.{kernel};
 ghost use Rattle.quartz_tree.specs.Least.{least_place};
+ghost use Rattle.quartz_names.specs.Numbered.{IsResolved};
 ghost use Rattle.quartz_types.specs.Rules.{first_break, module_bound_breaks, module_kind_breaks};
 
 use crate::bound::least_declared_break;
@@ -29,8 +30,8 @@ fn least_module_bound_break(vars: &[Var], body: &Stmt) -> Option<Place>
     lesser_place(least_declared_break(vars), least_bound_break(body, vars))
 }
 
-// The first of the rules S4 to S7 that is broken, at the least of its places.
-fn first_break(vars: &[Var], body: &Stmt) -> Option<(u8, Place)>
+/// The first of the rules S4 to S7 that is broken, at the least of its places.
+pub(crate) fn first_break(vars: &[Var], body: &Stmt) -> Option<(u8, Place)>
     ensures { result ≡ first_break vars.now (kernel body.now) }
 {
     if let Some(place) = least_module_kind_break(vars, body) {
@@ -51,6 +52,7 @@ fn first_break(vars: &[Var], body: &Stmt) -> Option<(u8, Place)>
 /// Judges a module by the rules S4 to S7. It takes no memory, and so never answers
 /// [`TypeFault::NoMemory`].
 pub fn check(_alloc: Global, resolved: Resolved) -> Result<Typed, TypeFault>
+    requires { IsResolved resolved }
     ensures same { IfOk result (λ t. t.resolved ≡ resolved) }
     ensures broken { (r : ℕ) (p : Place) → IsErrOf result (TypeFault.Rule r p) ↔ (first_break resolved.vars (kernel resolved.body) ≡ Some (r, p)) }
     ensures no_memory { ¬ (IsErrOf result TypeFault.NoMemory) }

@@ -3,7 +3,7 @@ ghost use Rattle.quartz_tree.specs.Kernel.{kernel, kernels};
 ghost use Rattle.quartz_tree.specs.Least.{least_place};
 ghost use Rattle.quartz_types.specs.Rules.{all_input_writes, flow_of, input_writes, is_input};
 
-use quartz_names::{lesser_place, place_if};
+use quartz_names::{lesser_place, place_if, unscoped};
 use quartz_tree::{Flow, Place, Stmt, Var};
 
 fn is_input(vars: &[Var], var: u32) -> bool
@@ -17,8 +17,17 @@ fn is_input(vars: &[Var], var: u32) -> bool
 
 /// The least write of an input.
 #[cycle(inputs)]
-#[tactic(auto, using(quartz_names::proofs::LeastLemmas::least_append))]
+#[tactic(auto, using(crate::proofs::UnscopedLemmas::inputs_unscoped))]
 pub fn least_input_write(stmt: &Stmt, vars: &[Var]) -> Option<Place>
+    ensures { result ≡ least_place (input_writes vars.now (kernel stmt.now)) }
+{
+    least_inside(unscoped(stmt), vars)
+}
+
+// The least write of an input in a statement without the scopes around it.
+#[cycle(inputs)]
+#[tactic(auto, using(quartz_names::proofs::LeastLemmas::least_append))]
+fn least_inside(stmt: &Stmt, vars: &[Var]) -> Option<Place>
     ensures { result ≡ least_place (input_writes vars.now (kernel stmt.now)) }
 {
     match stmt {

@@ -10,7 +10,7 @@ use quartz_expr::{
     ExprKind, counted_width, kind_of_bits, kind_of_choice, kind_of_element, kind_of_name,
     kind_of_number, kind_of_one, kind_of_slice, kind_of_two,
 };
-use quartz_names::{has_kind_of, lesser_place, place_if};
+use quartz_names::{has_kind_of, lesser_place, place_if, unscoped};
 use quartz_tree::{Expr, Init, Place, Stmt, Ty, Var};
 
 fn is_array(vars: &[Var], var: u32) -> bool
@@ -253,8 +253,17 @@ fn least_write_break(
 
 /// The least place at which a statement breaks the rule of kinds.
 #[cycle(kinds)]
-#[tactic(auto, using(quartz_names::proofs::LeastLemmas::least_append))]
+#[tactic(auto, using(crate::proofs::UnscopedLemmas::kinds_unscoped))]
 pub fn least_kind_break(stmt: &Stmt, vars: &[Var]) -> Option<Place>
+    ensures { result ≡ least_place (stmt_kind_breaks vars.now (kernel stmt.now)) }
+{
+    least_inside(unscoped(stmt), vars)
+}
+
+// The least place at which a statement without the scopes around it breaks the rule of kinds.
+#[cycle(kinds)]
+#[tactic(auto, using(quartz_names::proofs::LeastLemmas::least_append))]
+fn least_inside(stmt: &Stmt, vars: &[Var]) -> Option<Place>
     ensures { result ≡ least_place (stmt_kind_breaks vars.now (kernel stmt.now)) }
 {
     match stmt {

@@ -5,7 +5,7 @@ ghost use Rattle.quartz_tree.specs.Least.{least_place, lesser_place};
 ghost use Rattle.quartz_expr.specs.Kinds.{place_if};
 ghost use Rattle.quartz_types.specs.Rules.{all_instant_loops, instant_loops};
 
-use quartz_names::{lesser_place, place_if};
+use quartz_names::{lesser_place, place_if, unscoped};
 use quartz_tree::{Place, Stmt};
 
 /// Whether a statement may end in the macro step in which it starts, and the least of its loops
@@ -50,8 +50,18 @@ fn repeated(body: Loops, place: Place) -> Loops
 }
 
 #[cycle(looping)]
-#[tactic(auto, using(quartz_names::proofs::LeastLemmas::least_append))]
+#[tactic(auto, using(crate::proofs::UnscopedLemmas::instant_unscoped, crate::proofs::UnscopedLemmas::loops_unscoped))]
 fn looping(stmt: &Stmt) -> Loops
+    ensures instant { result.instant ≡ is_instant (term_of (kernel stmt.now)) }
+    ensures broken { result.broken ≡ least_place (instant_loops (kernel stmt.now)) }
+{
+    looping_inside(unscoped(stmt))
+}
+
+// The same of a statement without the scopes around it.
+#[cycle(looping)]
+#[tactic(auto, using(quartz_names::proofs::LeastLemmas::least_append))]
+fn looping_inside(stmt: &Stmt) -> Loops
     ensures instant { result.instant ≡ is_instant (term_of (kernel stmt.now)) }
     ensures broken { result.broken ≡ least_place (instant_loops (kernel stmt.now)) }
 {

@@ -5,7 +5,7 @@ ghost use Rattle.quartz_tree.specs.Tree.{tree};
 ghost use Rattle.quartz_types.specs.Rules.{index_bound_breaks, stmt_bound_breaks, stmts_bound_breaks, write_bound_breaks};
 
 use crate::bounded::least_expr_bound_break;
-use quartz_names::lesser_place;
+use quartz_names::{lesser_place, unscoped};
 use quartz_tree::{Expr, Place, Stmt, Var};
 
 // The least place at which an index breaks a bound.
@@ -29,8 +29,17 @@ fn least_write_break(index: &Option<Expr<u32>>, value: &Expr<u32>, vars: &[Var])
 
 /// The least place at which an expression of a statement breaks a bound.
 #[cycle(bounds)]
-#[tactic(auto, using(quartz_names::proofs::LeastLemmas::least_append))]
+#[tactic(auto, using(crate::proofs::UnscopedLemmas::bounds_unscoped))]
 pub fn least_bound_break(stmt: &Stmt, vars: &[Var]) -> Option<Place>
+    ensures { result ≡ least_place (stmt_bound_breaks vars.now (kernel stmt.now)) }
+{
+    least_inside(unscoped(stmt), vars)
+}
+
+// The least place at which a statement without the scopes around it breaks a bound.
+#[cycle(bounds)]
+#[tactic(auto, using(quartz_names::proofs::LeastLemmas::least_append))]
+fn least_inside(stmt: &Stmt, vars: &[Var]) -> Option<Place>
     ensures { result ≡ least_place (stmt_bound_breaks vars.now (kernel stmt.now)) }
 {
     match stmt {

@@ -1,9 +1,8 @@
 use super::*;
-use quartz_names::Resolved;
+use crate::checking::first_break;
 use quartz_tree::{
     Base, Binary, Decl, Expr, Flow, Init, Name, NoMemory, Place, Start, Stmt, Storage, Ty, Var,
 };
-use sqlite_items::Items;
 use std::alloc::Global;
 use std::test::Fail;
 
@@ -250,18 +249,10 @@ fn intervals_of_expressions(rt: HostRuntime) -> Result<(), Fail> {
     Ok(())
 }
 
-// The first broken rule of a module over the variables, and its place.
+// The first broken rule of a body over the variables, and its place.
 fn broken(alloc: Global, stmts: Vec<Stmt>) -> Result<Option<(u8, Place)>, NoMemory> {
-    let resolved = Resolved {
-        name: Name::new(alloc, "M")?,
-        vars: Items::from_vec(variables(alloc)?),
-        body: Stmt::Seq(stmts),
-    };
-    match check(alloc, resolved) {
-        Ok(_) => Ok(None),
-        Err(TypeFault::Rule(rule, place)) => Ok(Some((rule, place))),
-        Err(TypeFault::NoMemory) => Err(NoMemory),
-    }
+    let vars = variables(alloc)?;
+    Ok(first_break(&vars, &Stmt::Seq(stmts)))
 }
 
 #[test]

@@ -13,8 +13,8 @@ least_in_parts-loop-stmt-preserved t c =
     (c.loop-stmt.invariant ∙ ap (λ l. lesser_place c.loop-stmt.least (least_place (all_input_writes c.args.vars.now (kernels (map kernel l))))) (left_from c.args.stmts.now c.loop-stmt.stmt-index c.stmt-item.result (omega arith) c.stmt-item.is))
     (c.lesser_place-least.ensures ∙ ap (lesser_place c.loop-stmt.least) c.least_input_write.ensures)
 
-pub least_input_write-returns-in-Choose : goal.least_input_write-returns-in-Choose
-least_input_write-returns-in-Choose t c =
+pub least_inside-returns-in-Choose : goal.least_inside-returns-in-Choose
+least_inside-returns-in-Choose t c =
     least_two c.least_input_write.result c.least_input_write-in-Choose.result c.lesser_place.result (input_writes c.args.vars.now (kernel c.in-Choose.yes.value)) (input_writes c.args.vars.now (kernel c.in-Choose.no.value))
     (c.least_input_write.ensures ∙ ap (λ s. least_place (input_writes c.args.vars.now (kernel s))) c.deref.ensures)
     (c.least_input_write-in-Choose.ensures ∙ ap (λ s. least_place (input_writes c.args.vars.now (kernel s))) c.deref-in-Choose.ensures)

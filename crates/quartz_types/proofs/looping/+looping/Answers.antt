@@ -20,8 +20,8 @@ all_looping-loop-stmt-preserved t c = record {
       (c.both-all.ensures.broken ∙ ap (lesser_place c.loop-stmt.all.broken) c.looping.ensures.broken);
 }
 
-pub looping-returns-in-Choose-clause-broken : goal.looping-returns-in-Choose-clause-broken
-looping-returns-in-Choose-clause-broken t c =
+pub looping_inside-returns-in-Choose-clause-broken : goal.looping_inside-returns-in-Choose-clause-broken
+looping_inside-returns-in-Choose-clause-broken t c =
     least_two c.looping.result.broken c.looping-in-Choose.result.broken c.either.result.broken (instant_loops (kernel c.in-Choose.yes.value)) (instant_loops (kernel c.in-Choose.no.value))
     (c.looping.ensures.broken ∙ ap (λ s. least_place (instant_loops (kernel s))) c.deref.ensures)
     (c.looping-in-Choose.ensures.broken ∙ ap (λ s. least_place (instant_loops (kernel s))) c.deref-in-Choose.ensures)

@@ -15,8 +15,8 @@ least_in_parts-loop-stmt-preserved t c =
     (c.loop-stmt.invariant ∙ ap (λ l. lesser_place c.loop-stmt.least (least_place (stmts_bound_breaks c.args.vars.now (kernels (map kernel l))))) (left_from c.args.stmts.now c.loop-stmt.stmt-index c.stmt-item.result (omega arith) c.stmt-item.is))
     (c.lesser_place-least.ensures ∙ ap (lesser_place c.loop-stmt.least) c.least_bound_break.ensures)
 
-pub least_bound_break-returns-in-Choose : goal.least_bound_break-returns-in-Choose
-least_bound_break-returns-in-Choose t c =
+pub least_inside-returns-in-Choose : goal.least_inside-returns-in-Choose
+least_inside-returns-in-Choose t c =
     least_three c.least_expr_bound_break-cond.result c.least_bound_break-yes.result c.least_bound_break-no.result c.lesser_place-in-Choose.result c.lesser_place.result
     (bound_breaks c.args.vars.now (tree c.in-Choose.cond)) (stmt_bound_breaks c.args.vars.now (kernel c.in-Choose.yes.value)) (stmt_bound_breaks c.args.vars.now (kernel c.in-Choose.no.value))
     c.least_expr_bound_break-cond.ensures
@@ -25,15 +25,15 @@ least_bound_break-returns-in-Choose t c =
     c.lesser_place.ensures c.lesser_place-in-Choose.ensures
     ∙ ap (λ k. least_place (stmt_bound_breaks c.args.vars.now k)) (sym (ap kernel c.in-Choose.is ∙ kernel_choose c.in-Choose.cond c.in-Choose.yes c.in-Choose.no))
 
-pub least_bound_break-returns-in-Loop : goal.least_bound_break-returns-in-Loop
-least_bound_break-returns-in-Loop t c =
+pub least_inside-returns-in-Loop : goal.least_inside-returns-in-Loop
+least_inside-returns-in-Loop t c =
     least_two c.least_bound_break-body.result c.least_expr_bound_break.result c.lesser_place-in-Loop.result (stmt_bound_breaks c.args.vars.now (kernel c.in-Loop.body.value)) (bound_breaks c.args.vars.now (tree c.in-Loop.cond))
     (c.least_bound_break-body.ensures ∙ ap (λ s. least_place (stmt_bound_breaks c.args.vars.now (kernel s))) c.deref-in-Loop.ensures)
     c.least_expr_bound_break.ensures c.lesser_place-in-Loop.ensures
     ∙ ap (λ k. least_place (stmt_bound_breaks c.args.vars.now k)) (sym (ap kernel c.in-Loop.is ∙ kernel_loop c.in-Loop.body c.in-Loop.cond c.in-Loop.place))
 
-pub least_bound_break-returns-in-Guard : goal.least_bound_break-returns-in-Guard
-least_bound_break-returns-in-Guard t c =
+pub least_inside-returns-in-Guard : goal.least_inside-returns-in-Guard
+least_inside-returns-in-Guard t c =
     least_two c.least_bound_break-body-in-Guard.result c.least_expr_bound_break-in-Guard.result c.lesser_place-in-Guard.result (stmt_bound_breaks c.args.vars.now (kernel c.in-Guard.body.value)) (bound_breaks c.args.vars.now (tree c.in-Guard.cond))
     (c.least_bound_break-body-in-Guard.ensures ∙ ap (λ s. least_place (stmt_bound_breaks c.args.vars.now (kernel s))) c.deref-in-Guard.ensures)
     c.least_expr_bound_break-in-Guard.ensures c.lesser_place-in-Guard.ensures
