@@ -1,6 +1,6 @@
 -- Closing is resolving.
 use Rattle.std.proofs.Common.{◌≡◌, ℕ, zero, suc, ◌+◌, ◌<◌, ◌≤◌, ℤ, pos, Bool, true, false, List, [], ◌∷◌, ◌++◌, length, map, Option, Some, None, refl, sym, ap, ap₂, ◌∙◌, arith, append_assoc, length-append}
-use Rattle.std.specs.Prelude.{is_some, ◌&&◌, ◌||◌, ◌==◌, unwrap_or, filter, slice_get, slice_set, if◌then◌else◌}
+use Rattle.std.specs.Prelude.{is_some, ◌||◌, ◌==◌, unwrap_or, filter, slice_get, slice_set, if◌then◌else◌}
 use Rattle.std.proofs.lemmas.Bool.Decides.{nat_tests}
 use Rattle.std.proofs.lemmas.List.{append-nil}
 use Rattle.quartz_tree.specs.declared.place.Place.{Place}
@@ -10,19 +10,19 @@ use Rattle.quartz_expr.specs.declared.act.Act.{Act}
 use Rattle.quartz_expr.specs.declared.act.Kept.{Kept}
 use Rattle.quartz_expr.specs.Terms.{Store}
 use Rattle.quartz_expr.specs.Faults.{fault_if}
-use Rattle.quartz_expr.specs.Resolve.{conflicts, differ, differs_from, first_of_all, given_store, resolved, resolved_store, store_conflicts, values_of, writes_of}
+use Rattle.quartz_expr.specs.Resolve.{conflicts, differs_from, first_of_all, given_store, resolved, resolved_store, store_conflicts, values_of, writes_of}
 use Rattle.aif_cells.specs.declared.reference.Ref.{Ref}
 use Rattle.aif_cells.specs.declared.reference.Ref.TheVariants as ref
 use Rattle.aif_cells.specs.declared.cells.Monitor.{Monitor}
 use Rattle.aif_cells.specs.Tree.{Tree}
 use Rattle.aif_cells.specs.Worth.{Assignment, read, truth, worth}
-use Rattle.aif_cells.specs.Built.{Defined, Made, given_or_new, is_not_nought, join, join_alone, or_all}
-use Rattle.aif_cells.specs.Solution.{Extends, MeetsBut, MeetsFrom}
+use Rattle.aif_cells.specs.Built.{Defined, Made, given_or_new, is_not_nought, join_alone, or_all}
+use Rattle.aif_cells.specs.Solution.{Extends, MeetsFrom}
 use Rattle.aif_cells.proofs.SolutionLemmas.{there}
 use Rattle.absence_reaction.specs.declared.copy.VarCopy.{VarCopy}
 use Rattle.absence_reaction.specs.declared.copy.Shape.{Shape}
-use Rattle.absence_reaction.specs.Closing.{Built, Copy, Element, arms_for, can_conflict, closed_copy, closed_element, closed_from, conflict_made, flag_made, has_pending, pending_made, value_tree, watched_by}
-use Rattle.absence_reaction.specs.Meaning.{AreBits, AreDistinctBelow, AreWritesOf, ClosingGoesBack, ClosingKeeps, ClosingResolves, FlagsAreBits, GoesOnAt, GoesOnFrom, GuardsAreBits, IsBit, Keeps, Resolves, WriteAlike, copy_acts, given_values, is_among, or_nought, pendings_of, raised, tree_worth, wanted, worth_in}
+use Rattle.absence_reaction.specs.Closing.{Built, arms_for, can_conflict, closed_copy, closed_element, closed_from, conflict_made, flag_made, has_pending, pending_made, value_tree, watched_by}
+use Rattle.absence_reaction.specs.Meaning.{AreBits, AreDistinctBelow, AreWritesOf, ClosingGoesBack, ClosingKeeps, ClosingResolves, FlagsAreBits, GoesOnAt, GoesOnFrom, GuardsAreBits, IsBit, WriteAlike, copy_acts, given_values, is_among, or_nought, pendings_of, raised, tree_worth, worth_in}
 use Rattle.absence_reaction.proofs.WriteLemmas.{acting, now_written, next_written}
 use Rattle.absence_reaction.proofs.ElementMeaning.{conflict_is, first_differs, flag_bit, flag_is, pending_is, quiet_alone, quiet_beside, unpended, value_is}
 
@@ -48,7 +48,7 @@ loosened f g h p = record { longer = p.longer; kept = λ k i e. p.kept k i (h k 
 same_extends : (f : ℕ → Bool) (a : List Defined) → Extends f a a
 same_extends f a = record { longer = omega arith; kept = λ k h e. refl }
 
-get_before : (xs ys : List Defined) (k : ℕ) → k < length xs → slice_get (xs ++ ys) k ≡ slice_get xs k
+pub get_before : (xs ys : List Defined) (k : ℕ) → k < length xs → slice_get (xs ++ ys) k ≡ slice_get xs k
 get_before [] ys k h = absurd (omega (arith, h))
 get_before (x ∷ xs) ys zero h = refl
 get_before (x ∷ xs) ys (suc k) h = get_before xs ys k (omega (arith, h))
@@ -56,12 +56,12 @@ get_before (x ∷ xs) ys (suc k) h = get_before xs ys k (omega (arith, h))
 appended : (xs ys : List Defined) → Extends none_free xs (xs ++ ys)
 appended xs ys = record { longer = omega (arith, length-append xs ys); kept = λ k h e. get_before xs ys k h }
 
-set_longer : (cs : List Defined) (k : ℕ) (x : Defined) → length cs ≡ length (slice_set cs k x)
+pub set_longer : (cs : List Defined) (k : ℕ) (x : Defined) → length cs ≡ length (slice_set cs k x)
 set_longer [] k x = refl
 set_longer (c ∷ cs) zero x = refl
 set_longer (c ∷ cs) (suc k) x = let e : length cs ≡ length (slice_set cs k x) = set_longer cs k x in omega (arith, e)
 
-get_other : (cs : List Defined) (n k : ℕ) (x : Defined) → (k == n) ≡ false → slice_get (slice_set cs n x) k ≡ slice_get cs k
+pub get_other : (cs : List Defined) (n k : ℕ) (x : Defined) → (k == n) ≡ false → slice_get (slice_set cs n x) k ≡ slice_get cs k
 get_other [] n k x e = refl
 get_other (c ∷ cs) zero zero x e = absurd (cc)
 get_other (c ∷ cs) zero (suc k) x e = refl
@@ -83,10 +83,10 @@ given_extends : (o : Option Ref) (t : Tree) (p : Place) (cs : List Defined) → 
 given_extends (Some r) t p cs = same_extends none_free cs
 given_extends None t p cs = appended cs (record { tree = t; place = p } ∷ [])
 
-flag_extends : (p : Place) (arms : List (Tree × Tree)) (cs : List Defined) → Extends none_free cs (flag_made p arms cs).cells
+pub flag_extends : (p : Place) (arms : List (Tree × Tree)) (cs : List Defined) → Extends none_free cs (flag_made p arms cs).cells
 flag_extends p arms cs = let left : List Tree = filter is_not_nought (map (λ a. a.0) arms) in given_extends (join_alone left) (or_all left) p cs
 
-pending_extends : (p : Place) (arms : List (Tree × Tree)) (cs : List Defined) → Extends none_free cs (pending_made p arms cs).cells
+pub pending_extends : (p : Place) (arms : List (Tree × Tree)) (cs : List Defined) → Extends none_free cs (pending_made p arms cs).cells
 pending_extends p [] cs = same_extends none_free cs
 pending_extends p (a ∷ arms) cs = given_extends None _ p cs
 
@@ -94,46 +94,46 @@ watched_extends : (b : Bool) (p : Place) (t : Tree) (β : Built) → Extends non
 watched_extends true p t β = appended β.cells (record { tree = t; place = p } ∷ [])
 watched_extends false p t β = same_extends none_free β.cells
 
-conflict_extends : (p : Place) (beside : Bool) (r : Ref) (arms : List (Tree × Tree)) (β : Built) → Extends none_free β.cells (conflict_made p beside r arms β).cells
+pub conflict_extends : (p : Place) (beside : Bool) (r : Ref) (arms : List (Tree × Tree)) (β : Built) → Extends none_free β.cells (conflict_made p beside r arms β).cells
 conflict_extends p beside r arms β = watched_extends (can_conflict beside (length arms)) p _ β
 
 -- ---- the cells of an element, step by step
 
-abbrev valued : Shape → VarCopy → (j k : ℕ) → Built → List Defined
+abbrev pub valued : Shape → VarCopy → (j k : ℕ) → Built → List Defined
 valued v c j k β = slice_set β.cells k (record { tree = value_tree v c j; place = v.place })
 
-abbrev flagged : Shape → VarCopy → (j k : ℕ) → Built → Made
+abbrev pub flagged : Shape → VarCopy → (j k : ℕ) → Built → Made
 flagged v c j k β = flag_made v.place (arms_for j c.next) (valued v c j k β)
 
-abbrev pended : Shape → VarCopy → (j k : ℕ) → Built → Made
+abbrev pub pended : Shape → VarCopy → (j k : ℕ) → Built → Made
 pended v c j k β = pending_made v.place (arms_for j c.next) (flagged v c j k β).cells
 
-abbrev watched_now : Shape → VarCopy → (j k : ℕ) → Built → Built
+abbrev pub watched_now : Shape → VarCopy → (j k : ℕ) → Built → Built
 watched_now v c j k β = conflict_made v.place (has_pending v c) (ref.Cell k) (arms_for j c.now) (record β { cells = (pended v c j k β).cells })
 
-abbrev last_of : Shape → VarCopy → (j k : ℕ) → Built → List Defined
+abbrev pub last_of : Shape → VarCopy → (j k : ℕ) → Built → List Defined
 last_of v c j k β = (closed_element v c j k β).built.cells
 
 after_first : (v : Shape) (c : VarCopy) (j k : ℕ) (β : Built) → Extends none_free (watched_now v c j k β).cells (last_of v c j k β)
 after_first v c j k β = conflict_extends v.place false (pended v c j k β).ref (arms_for j c.next) (watched_now v c j k β)
 
-after_pending : (v : Shape) (c : VarCopy) (j k : ℕ) (β : Built) → Extends none_free (pended v c j k β).cells (last_of v c j k β)
+pub after_pending : (v : Shape) (c : VarCopy) (j k : ℕ) (β : Built) → Extends none_free (pended v c j k β).cells (last_of v c j k β)
 after_pending v c j k β = follow none_free (conflict_extends v.place (has_pending v c) (ref.Cell k) (arms_for j c.now) (record β { cells = (pended v c j k β).cells })) (after_first v c j k β)
 
-after_flag : (v : Shape) (c : VarCopy) (j k : ℕ) (β : Built) → Extends none_free (flagged v c j k β).cells (last_of v c j k β)
+pub after_flag : (v : Shape) (c : VarCopy) (j k : ℕ) (β : Built) → Extends none_free (flagged v c j k β).cells (last_of v c j k β)
 after_flag v c j k β = follow none_free (pending_extends v.place (arms_for j c.next) (flagged v c j k β).cells) (after_pending v c j k β)
 
 after_value : (v : Shape) (c : VarCopy) (j k : ℕ) (β : Built) → Extends none_free (valued v c j k β) (last_of v c j k β)
 after_value v c j k β = follow none_free (flag_extends v.place (arms_for j c.next) (valued v c j k β)) (after_flag v c j k β)
 
-element_extends : (v : Shape) (c : VarCopy) (j k : ℕ) (β : Built) → Extends (is_cell k) β.cells (last_of v c j k β)
+pub element_extends : (v : Shape) (c : VarCopy) (j k : ℕ) (β : Built) → Extends (is_cell k) β.cells (last_of v c j k β)
 element_extends v c j k β = follow (is_cell k) (set_extends β.cells k (record { tree = value_tree v c j; place = v.place })) (loosened none_free (is_cell k) (λ q e. refl) (after_value v c j k β))
 
 either : (a b : Bool) → (a || b) ≡ false → (a ≡ false) × (b ≡ false)
 either false b e = (refl, e)
 either true b e = absurd (cc)
 
-from_extends : (v : Shape) (c : VarCopy) (j : ℕ) (ks : List ℕ) (β : Built) → Extends (λ q. is_among q ks) β.cells (closed_from v c j ks β).built.cells
+pub from_extends : (v : Shape) (c : VarCopy) (j : ℕ) (ks : List ℕ) (β : Built) → Extends (λ q. is_among q ks) β.cells (closed_from v c j ks β).built.cells
 from_extends v c j [] β = same_extends (λ q. false) β.cells
 from_extends v c j (k ∷ ks) β = follow (λ q. is_among q (k ∷ ks))
     (loosened (is_cell k) (λ q. is_among q (k ∷ ks)) (λ q e. (either (q == k) (is_among q ks) e).0) (element_extends v c j k β))
@@ -235,7 +235,7 @@ not_among n q (k ∷ ks) d h = ap (λ b. b || is_among q ks) (above k d.0) ∙ n
     above j l = grind (arith, nat_tests, l, h)
 
 -- the tree of a value cell
-value_there : (v : Shape) (c : VarCopy) (n j k : ℕ) (ks : List ℕ) (β : Built) → AreDistinctBelow n (k ∷ ks) → n ≤ length β.cells
+pub value_there : (v : Shape) (c : VarCopy) (n j k : ℕ) (ks : List ℕ) (β : Built) → AreDistinctBelow n (k ∷ ks) → n ≤ length β.cells
     → slice_get (closed_from v c j (k ∷ ks) β).built.cells k ≡ Some (record { tree = value_tree v c j; place = v.place })
 value_there v c n j k ks β d h =
     let x : Defined = record { tree = value_tree v c j; place = v.place } in

@@ -1,12 +1,12 @@
 -- The cells of an element, step by step.
-use Rattle.std.proofs.Common.{◌≡◌, ℕ, zero, suc, ◌+◌, ◌≤◌, Bool, true, false, List, [], ◌∷◌, ◌++◌, length, map, Option, Some, None, refl, sym, ap, ◌∙◌, arith, length-append}
+use Rattle.std.proofs.Common.{◌≡◌, ℕ, zero, suc, ◌≤◌, Bool, true, false, List, [], ◌∷◌, length, map, Option, Some, None, refl, ap, ◌∙◌, arith, length-append}
 use Rattle.std.specs.Prelude.{slice_set, filter, if◌then◌else◌}
 use Rattle.quartz_tree.specs.declared.place.Place.{Place}
 use Rattle.aif_cells.specs.declared.reference.Ref.{Ref}
 use Rattle.aif_cells.specs.declared.reference.Ref.TheVariants as ref
 use Rattle.aif_cells.specs.declared.cells.Cell.{Cell}
 use Rattle.aif_cells.specs.declared.cells.Monitor.{Monitor}
-use Rattle.aif_cells.specs.Tree.{Tree, tree}
+use Rattle.aif_cells.specs.Tree.{Tree}
 use Rattle.aif_cells.specs.Built.{Defined, Made, all_defined, defined, given_or_new, is_not_nought, join, join_alone, or_all}
 use Rattle.absence_reaction.specs.declared.copy.VarCopy.{VarCopy}
 use Rattle.absence_reaction.specs.declared.copy.Shape.{Shape}

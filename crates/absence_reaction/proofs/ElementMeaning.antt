@@ -1,32 +1,30 @@
 -- What the cells of one element mean.
-use Rattle.std.proofs.Common.{subst, ◌≡◌, ◌⊎◌, inl, inr, ℕ, zero, suc, ◌+◌, ◌<◌, ◌≤◌, ℤ, pos, negsuc, Bool, true, false, List, [], ◌∷◌, ◌++◌, length, map, Option, Some, None, refl, sym, ap, ap₂, ◌∙◌, arith, append_assoc, length-append}
-use Rattle.std.specs.Prelude.{not, ◌&&◌, ◌||◌, ◌==◌, nat_lt, unwrap_or, is_some, filter, slice_get, slice_set, if◌then◌else◌}
+use Rattle.std.proofs.Common.{subst, ◌≡◌, inl, inr, ℕ, zero, suc, ◌≤◌, ℤ, pos, negsuc, Bool, true, false, List, [], ◌∷◌, ◌++◌, length, map, Option, Some, None, refl, sym, ap, ap₂, ◌∙◌, arith, append_assoc}
+use Rattle.std.specs.Prelude.{not, ◌&&◌, ◌||◌, nat_lt, unwrap_or, is_some, filter, slice_get, if◌then◌else◌}
 use Rattle.std.proofs.lemmas.Bool.Decides.{nat_tests}
 use Rattle.std.proofs.lemmas.List.{append-nil}
 use Rattle.quartz_tree.specs.declared.place.Place.{Place}
 use Rattle.quartz_tree.specs.declared.declare.Storage.{Storage}
 use Rattle.quartz_tree.specs.declared.declare.Storage.TheVariants.{Mem, Event}
-use Rattle.quartz_tree.specs.declared.fault.Fault.{Fault}
 use Rattle.quartz_tree.specs.declared.fault.Kind.TheVariants.{Conflict}
 use Rattle.quartz_expr.specs.declared.act.Kept.{Kept}
 use Rattle.quartz_expr.specs.Values.{of_bool, same_value}
 use Rattle.quartz_expr.specs.Faults.{fault_if}
-use Rattle.quartz_expr.specs.Resolve.{absence, conflicts, differ, differs_from, first_of_all, resolved}
+use Rattle.quartz_expr.specs.Resolve.{absence, differ, differs_from, first_of_all, resolved}
 use Rattle.quartz_expr.proofs.LawLemmas.{same_refl}
 use Rattle.aif_cells.specs.declared.reference.Ref.{Ref}
 use Rattle.aif_cells.specs.declared.reference.Ref.TheVariants as ref
 use Rattle.aif_cells.specs.declared.cells.Action.{Action}
 use Rattle.aif_cells.specs.declared.cells.Monitor.{Monitor}
-use Rattle.aif_cells.specs.declared.tree.TreeTwo.TheVariants.{And, Ne}
 use Rattle.aif_cells.specs.Tree.{Tree, value, one, two, ite, sel, fit, bnot, cat, bits, cases}
 use Rattle.aif_cells.specs.Worth.{Assignment, holds, one_holds, read, truth, worth}
 use Rattle.aif_cells.specs.Solution.{MeetsFrom}
-use Rattle.aif_cells.specs.Built.{Defined, given, given_or_new, is_needed, is_not_nought, join, join_alone, new, or_all, reference_in}
+use Rattle.aif_cells.specs.Built.{Defined, given_or_new, is_not_nought, join, join_alone, or_all, reference_in}
 use Rattle.aif_cells.proofs.WorthLemmas.{holds_of_bool}
 use Rattle.absence_reaction.specs.declared.copy.VarCopy.{VarCopy}
 use Rattle.absence_reaction.specs.declared.copy.Shape.{Shape}
 use Rattle.absence_reaction.specs.Closing.{Built, absence_of, arm_before, arms_for, guard_for, can_conflict, conflict_made, disagrees, flag_made, flag_of, has_pending, is_memorized, pending_made, pending_of, register_of, value_tree, watched_by}
-use Rattle.absence_reaction.specs.Meaning.{AreBits, GoesOnAt, GuardsAreBits, IsBit, pending_before, raised}
+use Rattle.absence_reaction.specs.Meaning.{GoesOnAt, GuardsAreBits, IsBit, raised}
 use Rattle.absence_reaction.proofs.WriteLemmas.{acting}
 
 -- ---- the value

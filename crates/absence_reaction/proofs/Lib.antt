@@ -1,6 +1,7 @@
 pub mod ArmLemmas
 pub mod CopyLemmas
 pub mod CopyMeaning
+pub mod EarlierLemmas
 pub mod ElementLemmas
 pub mod ElementMeaning
 pub mod WriteLemmas

@@ -28,7 +28,7 @@ pub struct Closed {
 
 /// What closing asks of a variable.
 #[derive(Clone, Copy, Debug)]
-pub(crate) struct Shape {
+pub struct Shape {
     pub storage: Storage,
     pub delayed: bool,
     pub start: i64,

@@ -1,5 +1,7 @@
-//! What the cells of a closed copy mean. The function does nothing, and its contract states the laws.
+//! What the cells of a closed copy mean, and which cells they name. The functions do nothing, and their contracts state the
+//! laws.
 
+ghost use Rattle.absence_reaction.specs.Earlier.{ClosingNamesEarlier};
 ghost use Rattle.absence_reaction.specs.Meaning.{ClosingGoesBack, ClosingKeeps, ClosingResolves, FlagsAreBits};
 
 /// Closing is resolving: under every assignment that meets the equations of the cells that closing
@@ -11,4 +13,10 @@ pub fn closing_is_resolving()
     ensures bits { FlagsAreBits }
     ensures keeps { ClosingKeeps }
     ensures back { ClosingGoesBack }
+{}
+
+/// The cells that closing adds name only cells before them, and a value cell names only cells that were there when its
+/// copy was closed. So in cells that are made in this way only value cells name later ones.
+pub fn closing_names_earlier_cells()
+    ensures { ClosingNamesEarlier }
 {}

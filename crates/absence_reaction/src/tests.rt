@@ -421,3 +421,105 @@ fn arrays(rt: HostRuntime) -> Result<(), Fail> {
     )?;
     Ok(())
 }
+
+// Up to three actions of both kinds on a delayed event.
+#[test]
+fn delayed_events(rt: HostRuntime) -> Result<(), Fail> {
+    let alloc = rt.alloc();
+    let now_0 = write(Ref::Input(0), None, 5, false);
+    let now_1 = write(Ref::Input(1), None, 6, false);
+    let now_2 = write(Ref::Input(2), None, 7, false);
+    let next_0 = write(Ref::Input(3), None, 5, true);
+    let next_1 = write(Ref::Input(4), None, 6, true);
+    let next_2 = write(Ref::Input(5), None, 7, true);
+    let event = Case {
+        delayed: true,
+        ..EVENT
+    };
+    check(
+        &rt,
+        alloc,
+        event,
+        &[0],
+        &[now_0, now_1],
+        &[next_0],
+        "\ncell c0 = ite(r1,r2,ite(i0,5,ite(i1,6,0)))\ncell c1 = 0\ncell c2 = ite(i3,5,0)\ncell c3 = or(and(i0,ne(5,c0)),and(i1,ne(6,c0)))\nmonitor c3 1:9 conflict\n[Cell(0)] [Input(3)] [Cell(2)]",
+    )?;
+    check(
+        &rt,
+        alloc,
+        event,
+        &[0],
+        &[now_0, now_1, now_2],
+        &[next_0, next_1],
+        "\ncell c0 = ite(r1,r2,ite(i0,5,ite(i1,6,ite(i2,7,0))))\ncell c1 = 0\ncell c2 = or(i3,i4)\ncell c3 = ite(i3,5,ite(i4,6,0))\ncell c4 = or(and(i0,ne(5,c0)),or(and(i1,ne(6,c0)),and(i2,ne(7,c0))))\ncell c5 = or(and(i3,ne(5,c3)),and(i4,ne(6,c3)))\nmonitor c4 1:9 conflict\nmonitor c5 1:9 conflict\n[Cell(0)] [Cell(2)] [Cell(3)]",
+    )?;
+    check(
+        &rt,
+        alloc,
+        event,
+        &[0],
+        &[],
+        &[next_0, next_1, next_2],
+        "\ncell c0 = ite(r1,r2,0)\ncell c1 = 0\ncell c2 = or(i3,or(i4,i5))\ncell c3 = ite(i3,5,ite(i4,6,ite(i5,7,0)))\ncell c4 = or(and(i3,ne(5,c3)),or(and(i4,ne(6,c3)),and(i5,ne(7,c3))))\nmonitor c4 1:9 conflict\n[Cell(0)] [Cell(2)] [Cell(3)]",
+    )?;
+    Ok(())
+}
+
+// Up to three actions of both kinds on delayed arrays of two, of both storages.
+#[test]
+fn delayed_arrays(rt: HostRuntime) -> Result<(), Fail> {
+    let alloc = rt.alloc();
+    let first = write(Ref::Input(0), Some(Ref::Lit(0)), 5, false);
+    let any = write(Ref::Input(1), Some(Ref::Input(6)), 6, false);
+    let again = write(Ref::Input(2), Some(Ref::Lit(0)), 7, false);
+    let second = write(Ref::Input(2), Some(Ref::Lit(1)), 7, false);
+    let first_later = write(Ref::Input(3), Some(Ref::Lit(0)), 5, true);
+    let any_later = write(Ref::Input(4), Some(Ref::Input(6)), 6, true);
+    let second_later = write(Ref::Input(5), Some(Ref::Lit(1)), 7, true);
+    let memorized = Case {
+        len: Some(2),
+        ..DELAYED
+    };
+    let event = Case {
+        storage: Storage::Event,
+        ..memorized
+    };
+    check(
+        &rt,
+        alloc,
+        memorized,
+        &[0, 1],
+        &[first, any, again],
+        &[first_later, any_later],
+        "\ncell c0 = ite(r2,r3,ite(i0,5,ite(and(i1,eq(i6,0)),6,ite(i2,7,r1))))\ncell c1 = ite(r5,r6,ite(and(i1,eq(i6,1)),6,r4))\ncell c2 = or(i3,and(i4,eq(i6,0)))\ncell c3 = ite(i3,5,ite(and(i4,eq(i6,0)),6,0))\ncell c4 = or(and(i0,ne(5,c0)),or(and(and(i1,eq(i6,0)),ne(6,c0)),and(i2,ne(7,c0))))\ncell c5 = or(and(i3,ne(5,c3)),and(and(i4,eq(i6,0)),ne(6,c3)))\ncell c6 = and(i4,eq(i6,1))\ncell c7 = ite(and(i4,eq(i6,1)),6,0)\ncell c8 = and(and(i1,eq(i6,1)),ne(6,c1))\nmonitor c4 1:9 conflict\nmonitor c5 1:9 conflict\nmonitor c8 1:9 conflict\n[Cell(0), Cell(1)] [Cell(2), Cell(6)] [Cell(3), Cell(7)]",
+    )?;
+    check(
+        &rt,
+        alloc,
+        memorized,
+        &[0, 1],
+        &[],
+        &[first_later, any_later, second_later],
+        "\ncell c0 = ite(r2,r3,r1)\ncell c1 = ite(r5,r6,r4)\ncell c2 = or(i3,and(i4,eq(i6,0)))\ncell c3 = ite(i3,5,ite(and(i4,eq(i6,0)),6,0))\ncell c4 = or(and(i3,ne(5,c3)),and(and(i4,eq(i6,0)),ne(6,c3)))\ncell c5 = or(and(i4,eq(i6,1)),i5)\ncell c6 = ite(and(i4,eq(i6,1)),6,ite(i5,7,0))\ncell c7 = or(and(and(i4,eq(i6,1)),ne(6,c6)),and(i5,ne(7,c6)))\nmonitor c4 1:9 conflict\nmonitor c7 1:9 conflict\n[Cell(0), Cell(1)] [Cell(2), Cell(5)] [Cell(3), Cell(6)]",
+    )?;
+    check(
+        &rt,
+        alloc,
+        event,
+        &[0, 1],
+        &[any],
+        &[first_later, second_later],
+        "\ncell c0 = ite(r1,r2,ite(and(i1,eq(i6,0)),6,0))\ncell c1 = ite(r3,r4,ite(and(i1,eq(i6,1)),6,0))\ncell c2 = ite(i3,5,0)\ncell c3 = and(and(i1,eq(i6,0)),ne(6,c0))\ncell c4 = ite(i5,7,0)\ncell c5 = and(and(i1,eq(i6,1)),ne(6,c1))\nmonitor c3 1:9 conflict\nmonitor c5 1:9 conflict\n[Cell(0), Cell(1)] [Input(3), Input(5)] [Cell(2), Cell(4)]",
+    )?;
+    check(
+        &rt,
+        alloc,
+        event,
+        &[0, 1],
+        &[first, any, second],
+        &[first_later, any_later, second_later],
+        "\ncell c0 = ite(r1,r2,ite(i0,5,ite(and(i1,eq(i6,0)),6,0)))\ncell c1 = ite(r3,r4,ite(and(i1,eq(i6,1)),6,ite(i2,7,0)))\ncell c2 = or(i3,and(i4,eq(i6,0)))\ncell c3 = ite(i3,5,ite(and(i4,eq(i6,0)),6,0))\ncell c4 = or(and(i0,ne(5,c0)),and(and(i1,eq(i6,0)),ne(6,c0)))\ncell c5 = or(and(i3,ne(5,c3)),and(and(i4,eq(i6,0)),ne(6,c3)))\ncell c6 = or(and(i4,eq(i6,1)),i5)\ncell c7 = ite(and(i4,eq(i6,1)),6,ite(i5,7,0))\ncell c8 = or(and(and(i1,eq(i6,1)),ne(6,c1)),and(i2,ne(7,c1)))\ncell c9 = or(and(and(i4,eq(i6,1)),ne(6,c7)),and(i5,ne(7,c7)))\nmonitor c4 1:9 conflict\nmonitor c5 1:9 conflict\nmonitor c8 1:9 conflict\nmonitor c9 1:9 conflict\n[Cell(0), Cell(1)] [Cell(2), Cell(6)] [Cell(3), Cell(7)]",
+    )?;
+    Ok(())
+}

@@ -57,7 +57,7 @@ fn value_parts(alloc: Global, storage: Storage) -> Result<Vec<Part>, NoMemory>
 }
 
 // What the registers of an element keep, in order.
-fn parts_in(alloc: Global, vars: &[Var], var: u32) -> Result<Vec<Part>, NoMemory>
+pub(crate) fn parts_in(alloc: Global, vars: &[Var], var: u32) -> Result<Vec<Part>, NoMemory>
     requires { var < length vars.now }
     ensures { IfOk result (λ ps. (v : AnyVar) → slice_get vars.now var ≡ Some v → ps.items ≡ parts_of v) }
 {

@@ -5,7 +5,12 @@
 mod carrying;
 mod copy;
 mod entering;
+mod law;
 
 pub use carrying::carry;
 pub use copy::{ClosedRefs, Entered};
 pub use entering::enter_copy;
+pub use law::carrying_keeps_one_store;
+
+#[cfg(test)]
+mod tests;

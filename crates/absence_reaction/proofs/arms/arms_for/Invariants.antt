@@ -1,6 +1,6 @@
 use Rattle.std.proofs.Common.{◌≡◌, map, take}
 use Rattle.aif_cells.specs.Tree.{tree}
-use Rattle.absence_reaction.specs.Closing.{arms_for, disagrees}
+use Rattle.absence_reaction.specs.Closing.{arms_for}
 use Rattle.absence_reaction.proofs.arms.arms_for.Given as goal
 
 abbrev pub invariant-loop-action : goal.invariant-loop-action

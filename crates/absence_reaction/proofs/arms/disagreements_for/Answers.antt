@@ -1,7 +1,6 @@
-use Rattle.std.proofs.Common.{rules, map, List}
-use Rattle.aif_cells.specs.Tree.{Tree, tree}
+use Rattle.std.proofs.Common.{rules, map}
 use Rattle.absence_reaction.specs.Closing.{disagrees}
-use Rattle.absence_reaction.proofs.ArmLemmas.{made_more, map-over_append, same-append}
+use Rattle.absence_reaction.proofs.ArmLemmas.{made_more, map-over_append}
 use Rattle.absence_reaction.proofs.arms.disagreements_for.Goals as goal
 
 pub loop-action-preserved : goal.loop-action-preserved

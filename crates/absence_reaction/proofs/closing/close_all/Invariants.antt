@@ -1,5 +1,4 @@
-use Rattle.std.proofs.Common.{◌≡◌, ◌≤◌, ◌++◌, drop, length}
-use Rattle.aif_cells.specs.Built.{all_defined}
+use Rattle.std.proofs.Common.{◌≡◌, ◌≤◌, drop, length}
 use Rattle.absence_reaction.specs.Closing.{built, closed_copy, closed_from}
 use Rattle.absence_reaction.proofs.CopyLemmas.{behind}
 use Rattle.absence_reaction.proofs.closing.close_all.Given as goal

@@ -2,7 +2,7 @@ use Rattle.std.proofs.Common.{rules, ◌≡◌, map, ap, ◌∙◌}
 use Rattle.std.specs.Prelude.{slice_set}
 use Rattle.aif_cells.specs.Tree.{tree}
 use Rattle.aif_cells.specs.Built.{all_defined}
-use Rattle.absence_reaction.specs.Closing.{built, closed_element, value_tree}
+use Rattle.absence_reaction.specs.Closing.{built, closed_element}
 use Rattle.absence_reaction.proofs.ElementLemmas.{cells_longer, closed_by, element_of, map_set}
 use Rattle.absence_reaction.proofs.closing.close_element.Goals as goal
 
