@@ -1,0 +1,15 @@
+pub mod AnswerLemmas
+pub mod ArmLemmas
+pub mod EnvLemmas
+pub mod FormLemmas
+pub mod PassedLemmas
+pub mod RangeLemmas
+pub mod ReactLemmas
+pub mod ResidualLemmas
+pub mod ResolveLemmas
+pub mod SoundLemmas
+pub mod TypedLemmas
+pub mod VariantLemmas
+pub mod WalkLemmas
+pub mod WalkedLemmas
+pub mod WriteLemmas

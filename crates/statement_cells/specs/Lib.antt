@@ -1,0 +1,10 @@
+pub mod Builder
+pub mod Earlier
+pub mod Expressions
+pub mod Labels
+pub mod Meaning
+pub mod Sound
+pub mod Stands
+pub mod Surface
+pub mod Walk
+pub mod Whole
