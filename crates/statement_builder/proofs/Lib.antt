@@ -1,0 +1,12 @@
+pub mod ChainLemmas
+pub mod EndLemmas
+pub mod GateLemmas
+pub mod GuardLemmas
+pub mod JoinLemmas
+pub mod NotingLemmas
+pub mod ResumeLemmas
+pub mod ScopeLemmas
+pub mod StartLemmas
+pub mod StepLemmas
+pub mod TestLemmas
+pub mod VariantLemmas
