@@ -1,0 +1,11 @@
+pub mod BeginLemmas
+pub mod CarryLemmas
+pub mod CopyLemmas
+pub mod CountLemmas
+pub mod EndLemmas
+pub mod LabelLemmas
+pub mod ListLemmas
+pub mod RegisterLemmas
+pub mod ScopeLemmas
+pub mod TestLemmas
+pub mod WholeLemmas
