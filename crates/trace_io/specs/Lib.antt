@@ -1,0 +1,14 @@
+pub mod Lines
+pub mod Values
+pub mod Inputs
+pub mod Reading
+pub mod Writing
+pub mod Story
+pub mod Capped
+pub mod Scan
+pub mod Held
+pub mod Next
+pub mod Header
+pub mod Trace
+pub mod Generator
+pub mod Counting
