@@ -2,8 +2,12 @@
 #![tactic(auto)]
 
 #[cfg(test)]
+mod nested;
+#[cfg(test)]
 mod rows;
 #[cfg(test)]
 mod static_rules;
 #[cfg(test)]
 mod texts;
+#[cfg(test)]
+mod worked;

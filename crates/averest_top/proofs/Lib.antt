@@ -1,12 +1,3 @@
-pub mod FormLemmas
-pub mod LineLemmas
-pub mod LoopLemmas
+pub mod CommandLemmas
 pub mod PromiseLemmas
-pub mod ReactLemmas
-pub mod ReadLemmas
 pub mod ReadingLemmas
-pub mod StepLemmas
-pub mod StoryLemmas
-pub mod ValueLemmas
-pub mod WireLemmas
-pub mod WriteLemmas

@@ -1,51 +1,55 @@
 -- From what is known of a text's run to what is promised of it.
-use Rattle.std.proofs.Common.{◌≡◌, ◌⊎◌, inl, inr, ℕ, min, List, map, length, take, arith, Option, Some, None, Ok, Err, refl, sym, ap, ap₂, subst, ◌∙◌}
+use Rattle.std.proofs.Common.{◌≡◌, ◌⊎◌, inl, inr, ℕ, min, List, length, take, arith, Option, Some, None, Ok, Err, refl, sym, ap, ap₂, subst, ◌∙◌}
+use Rattle.std.specs.Prelude.{option_and_then}
 use Rattle.quartz_tree.specs.declared.place.Place.{Place}
 use Rattle.outside.specs.declared.status.Status.{Status}
+use Rattle.outside.specs.declared.words.Command.{Command}
+use Rattle.outside.specs.Words.{meant}
 use Rattle.outside.specs.declared.status.Status.TheVariants.{Usage, ModuleUnavailable, Refused, BadInput, RunFault, ReadFault, WriteFault, StepLimit, NoMemory, BadWitness}
 use Rattle.outside.specs.declared.status.Status.TheVariants as status
-use Rattle.averest_top.specs.declared.logic.Logic.{Logic}
+use Rattle.quartz_tree.specs.Kernel.{Kernel}
+use Rattle.quartz_expr.specs.Vars.{Vars}
+use Rattle.cell_run.specs.Machine.{Executes}
+use Rattle.cell_run.specs.Told.{IsOfRun, Tells}
+use Rattle.averest_top.specs.declared.reading.Machine.{Machine}
 use Rattle.averest_top.specs.declared.reading.TextFault.{TextFault}
 use Rattle.averest_top.specs.declared.reading.TextFault.TheVariants as fault
-use Rattle.averest_top.specs.Logic.{Param, Conjunction, conjunction, IsLogicOf, AreInside, vars_of, body_of}
-use Rattle.averest_top.specs.Combinational.{Wiring}
-use Rattle.averest_top.specs.Reading.{IsBuilt, Refuses, ReadAs}
-use Rattle.averest_top.specs.Story.{Told, Tells}
+use Rattle.averest_top.specs.Reading.{IsAccepted, Refuses, ReadAs}
 use Rattle.std.proofs.lemmas.Grind.{common_steps}
 use Rattle.outside.specs.Bytes.{Fetched, Unfetched, Rose}
-use Rattle.averest_top.specs.Promise.{HasText, LacksText, IsExcused, Outcome, ComesBefore, IsOfRun, OfText, refusal_status}
-use Rattle.averest_top.proofs.ReadingLemmas.{one_refusal, not_refused, one_wiring}
-use Rattle.averest_top.proofs.WireLemmas.{logic_inside}
+use Rattle.averest_top.specs.Promise.{HasText, LacksText, IsExcused, Outcome, ComesBefore, OfText, refusal_status}
+use Rattle.averest_top.specs.Commands.{built_run, run_meant}
+use Rattle.averest_top.proofs.ReadingLemmas.{one_module, one_refusal, not_refused}
 
--- a logic that was read is inside
-pub read_inside : (text : List ℕ) (l : Logic) → ReadAs text (Ok l) → AreInside (length l.outputs.items) (map conjunction l.assignments.items)
-read_inside text l (w, b, i) = logic_inside w.params w.conjunctions l i
+-- words that mean a command mean its run
+pub run_of_command : (words : List (List ℕ)) (c : Command) (r : Option (List ℕ × ℕ)) → meant words ≡ Some c → run_meant words ≡ r → built_run c ≡ r
+run_of_command words c r h k = sym (ap (λ m. option_and_then built_run m) h) ∙ k
 
 -- a text that isn't built
-pub refused_text : (text : List ℕ) (left left' : Option (List ℕ)) (before after : List ℕ → Type 0) (shelf input out : Type 0) (f : TextFault) → ReadAs text (Err f) → OfText text left left' before after shelf input out (refusal_status f)
-refused_text text left left' before after shelf input out (fault.Refused r p) h = h
-refused_text text left left' before after shelf input out fault.NoMemory h = tt
+pub refused_text : (text : List ℕ) (greatest : ℕ) (left left' : Option (List ℕ)) (before after : List ℕ → Type 0) (shelf input out : Type 0) (f : TextFault) → ReadAs text (Err f) → OfText text greatest left left' before after shelf input out (refusal_status f)
+refused_text text greatest left left' before after shelf input out (fault.Refused r p) h = h
+refused_text text greatest left left' before after shelf input out fault.NoMemory h = tt
 
 pub refused_before : (f : TextFault) → ComesBefore (refusal_status f)
 refused_before (fault.Refused r p) = tt
 refused_before fault.NoMemory = tt
 
 -- a run that was told
-pub told_text : (text : List ℕ) (l : Logic) (left left' : Option (List ℕ)) (before after : List ℕ → Type 0) (shelf input out : Type 0) (s : Status) → ReadAs text (Ok l) → IsOfRun s
+pub told_text : (text : List ℕ) (m : Machine) (greatest : ℕ) (left left' : Option (List ℕ)) (before after : List ℕ → Type 0) (shelf input out : Type 0) (s : Status) → ReadAs text (Ok m) → IsOfRun s
     → (s ≡ ReadFault → input) → (s ≡ WriteFault → out)
-    → ((ps : List Param) (cs : List Conjunction) → IsLogicOf ps cs l → (trace : List ℕ) → left ≡ Some trace → Tells (vars_of ps) (body_of cs) trace before after left' s)
-    → OfText text left left' before after shelf input out s
-told_text text l left left' before after shelf input out status.Ok (w, b, i) r f g t = (w, b, t w.params w.conjunctions i)
-told_text text l left left' before after shelf input out (BadInput k) (w, b, i) r f g t = (w, b, t w.params w.conjunctions i)
-told_text text l left left' before after shelf input out StepLimit (w, b, i) r f g t = (w, b, t w.params w.conjunctions i)
-told_text text l left left' before after shelf input out ReadFault (w, b, i) r f g t = ((w, b), f refl)
-told_text text l left left' before after shelf input out WriteFault (w, b, i) r f g t = ((w, b), g refl)
-told_text text l left left' before after shelf input out Usage h r f g t = absurd r
-told_text text l left left' before after shelf input out ModuleUnavailable h r f g t = absurd r
-told_text text l left left' before after shelf input out (Refused q p) h r f g t = absurd r
-told_text text l left left' before after shelf input out (RunFault k q p) h r f g t = absurd r
-told_text text l left left' before after shelf input out NoMemory h r f g t = absurd r
-told_text text l left left' before after shelf input out (BadWitness k) h r f g t = absurd r
+    → ((vs : Vars) (body : Kernel) → Executes vs body m.aif → (trace : List ℕ) → left ≡ Some trace → Tells vs body trace greatest before after left' s)
+    → OfText text greatest left left' before after shelf input out s
+told_text text m greatest left left' before after shelf input out status.Ok (vs, body, b, i) r f g t = (vs, body, b, t vs body i.executes)
+told_text text m greatest left left' before after shelf input out (BadInput k) (vs, body, b, i) r f g t = (vs, body, b, t vs body i.executes)
+told_text text m greatest left left' before after shelf input out (RunFault k q p) (vs, body, b, i) r f g t = (vs, body, b, t vs body i.executes)
+told_text text m greatest left left' before after shelf input out StepLimit (vs, body, b, i) r f g t = (vs, body, b, t vs body i.executes)
+told_text text m greatest left left' before after shelf input out ReadFault (vs, body, b, i) r f g t = (f refl, (vs, body, b, t vs body i.executes))
+told_text text m greatest left left' before after shelf input out WriteFault (vs, body, b, i) r f g t = (g refl, (vs, body, b, t vs body i.executes))
+told_text text m greatest left left' before after shelf input out Usage h r f g t = absurd r
+told_text text m greatest left left' before after shelf input out ModuleUnavailable h r f g t = absurd r
+told_text text m greatest left left' before after shelf input out (Refused q p) h r f g t = absurd r
+told_text text m greatest left left' before after shelf input out NoMemory h r f g t = absurd r
+told_text text m greatest left left' before after shelf input out (BadWitness k) h r f g t = absurd r
 
 -- a status of a run doesn't come before it
 pub run_not_before : (s : Status) → IsOfRun s → ComesBefore s → ⊥
@@ -57,53 +61,55 @@ run_not_before WriteFault r b = b
 run_not_before Usage r b = r
 run_not_before ModuleUnavailable r b = r
 run_not_before (Refused q p) r b = r
-run_not_before (RunFault k q p) r b = r
+run_not_before (RunFault k q p) r b = b
 run_not_before NoMemory r b = r
 run_not_before (BadWitness k) r b = r
 
 -- a text is refused exactly by its rule
-pub refused_exactly : (text : List ℕ) (left left' : Option (List ℕ)) (before after : List ℕ → Type 0) (shelf input out : Type 0) (s : Status) → OfText text left left' before after shelf input out s → (r : ℕ) (p : Place)
+pub refused_exactly : (text : List ℕ) (greatest : ℕ) (left left' : Option (List ℕ)) (before after : List ℕ → Type 0) (shelf input out : Type 0) (s : Status) → OfText text greatest left left' before after shelf input out s → (r : ℕ) (p : Place)
     → (s ≡ Refused r p → Refuses text r p) × (Refuses text r p → (s ≡ Refused r p) ⊎ IsExcused s shelf)
-refused_exactly text left left' before after shelf input out s o r p = (only s o, exactly s o)
+refused_exactly text greatest left left' before after shelf input out s o r p = (only s o, exactly s o)
   where
-    only : (s : Status) → OfText text left left' before after shelf input out s → s ≡ Refused r p → Refuses text r p
-    only s o e = subst (OfText text left left' before after shelf input out) e o
+    only : (s : Status) → OfText text greatest left left' before after shelf input out s → s ≡ Refused r p → Refuses text r p
+    only s o e = subst (OfText text greatest left left' before after shelf input out) e o
 
-    exactly : (s : Status) → OfText text left left' before after shelf input out s → Refuses text r p → (s ≡ Refused r p) ⊎ IsExcused s shelf
+    exactly : (s : Status) → OfText text greatest left left' before after shelf input out s → Refuses text r p → (s ≡ Refused r p) ⊎ IsExcused s shelf
     exactly NoMemory o h = inr (inl refl)
     exactly ModuleUnavailable o h = inr (inr (refl, o))
     exactly (Refused q z) o h =
         let same = one_refusal text q r z p o h in
         inl (ap₂ (λ (a : ℕ) (b : Place). Refused a b) same.0 same.1)
-    exactly ReadFault ((w, b), o) h = absurd (not_refused text w r p b h)
-    exactly WriteFault ((w, b), o) h = absurd (not_refused text w r p b h)
+    exactly ReadFault (o, (vs, k, b, t)) h = absurd (not_refused text vs k r p b h)
+    exactly WriteFault (o, (vs, k, b, t)) h = absurd (not_refused text vs k r p b h)
     exactly Usage o h = absurd o
-    exactly status.Ok (w, b, t) h = absurd (not_refused text w r p b h)
-    exactly (BadInput k) (w, b, t) h = absurd (not_refused text w r p b h)
-    exactly (RunFault k q z) (w, b, t) h = absurd (not_refused text w r p b h)
-    exactly StepLimit (w, b, t) h = absurd (not_refused text w r p b h)
-    exactly (BadWitness k) (w, b, t) h = absurd (not_refused text w r p b h)
+    exactly status.Ok (vs, j, b, t) h = absurd (not_refused text vs j r p b h)
+    exactly (BadInput k) (vs, j, b, t) h = absurd (not_refused text vs j r p b h)
+    exactly (RunFault k q z) (vs, j, b, t) h = absurd (not_refused text vs j r p b h)
+    exactly StepLimit (vs, j, b, t) h = absurd (not_refused text vs j r p b h)
+    exactly (BadWitness k) (vs, j, b, t) h = absurd (not_refused text vs j r p b h)
 
--- a text that is built tells its story
-pub built_outcome : (text : List ℕ) (left left' : Option (List ℕ)) (before after : List ℕ → Type 0) (shelf input out : Type 0) (s : Status) → OfText text left left' before after shelf input out s
-    → (w : Wiring) (trace : List ℕ) → IsBuilt text w → left ≡ Some trace → Outcome w trace before after left' shelf input out s
-built_outcome text left left' before after shelf input out s o w trace b e = by_status s o
+-- a text that is accepted tells its story
+pub accepted_outcome : (text : List ℕ) (greatest : ℕ) (left left' : Option (List ℕ)) (before after : List ℕ → Type 0) (shelf input out : Type 0) (s : Status) → OfText text greatest left left' before after shelf input out s
+    → (vs : Vars) (body : Kernel) (trace : List ℕ) → IsAccepted text vs body → left ≡ Some trace → Outcome vs body trace greatest before after left' shelf input out s
+accepted_outcome text greatest left left' before after shelf input out s o vs body trace b e = by_status s o
   where
-    told : (v : Wiring) (s : Status) → IsBuilt text v → Told (vars_of v.params) (body_of v.conjunctions) trace before after left' s → Told (vars_of w.params) (body_of w.conjunctions) trace before after left' s
-    told v s c t = subst (λ (u : Wiring). Told (vars_of u.params) (body_of u.conjunctions) trace before after left' s) (one_wiring text v w c b) t
+    told : (us : Vars) (j : Kernel) (s : Status) → IsAccepted text us j → Tells us j trace greatest before after left' s → Tells vs body trace greatest before after left' s
+    told us j s c t =
+        let same = one_module text us vs j body c b in
+        subst (λ (xs : Vars). Tells xs body trace greatest before after left' s) same.0 (subst (λ (k : Kernel). Tells us k trace greatest before after left' s) same.1 t)
 
-    by_status : (s : Status) → OfText text left left' before after shelf input out s → Outcome w trace before after left' shelf input out s
+    by_status : (s : Status) → OfText text greatest left left' before after shelf input out s → Outcome vs body trace greatest before after left' shelf input out s
     by_status NoMemory o = inl (inl refl)
     by_status ModuleUnavailable o = inl (inr (refl, o))
-    by_status (Refused r p) o = absurd (not_refused text w r p b o)
-    by_status ReadFault (v, o) = inr (inl (refl, o))
-    by_status WriteFault (v, o) = inr (inr (inl (refl, o)))
+    by_status (Refused r p) o = absurd (not_refused text vs body r p b o)
+    by_status ReadFault (o, (us, j, c, t)) = inr (inl (refl, o, told us j ReadFault c (t trace e)))
+    by_status WriteFault (o, (us, j, c, t)) = inr (inr (inl (refl, o, told us j WriteFault c (t trace e))))
     by_status Usage o = absurd o
-    by_status status.Ok (v, c, t) = inr (inr (inr (told v status.Ok c (t trace e))))
-    by_status (BadInput k) (v, c, t) = inr (inr (inr (told v (BadInput k) c (t trace e))))
-    by_status (RunFault k q z) (v, c, t) = inr (inr (inr (told v (RunFault k q z) c (t trace e))))
-    by_status StepLimit (v, c, t) = inr (inr (inr (told v StepLimit c (t trace e))))
-    by_status (BadWitness k) (v, c, t) = inr (inr (inr (told v (BadWitness k) c (t trace e))))
+    by_status status.Ok (us, j, c, t) = inr (inr (inr (told us j status.Ok c (t trace e))))
+    by_status (BadInput k) (us, j, c, t) = inr (inr (inr (told us j (BadInput k) c (t trace e))))
+    by_status (RunFault k q z) (us, j, c, t) = inr (inr (inr (told us j (RunFault k q z) c (t trace e))))
+    by_status StepLimit (us, j, c, t) = inr (inr (inr (told us j StepLimit c (t trace e))))
+    by_status (BadWitness k) (us, j, c, t) = inr (inr (inr (told us j (BadWitness k) c (t trace e))))
 
 -- the text that was fetched is the one that the shelf tells
 pub fetched_text : (texts : Option (List ℕ → Option (List ℕ))) (name text room : List ℕ) (n : ℕ) → length room ≡ 65537 → HasText texts name text → Fetched texts name n room → take n room ≡ text
@@ -140,15 +146,15 @@ unfetched_text (Some told) name text before after h (inr e) =
     cc
 
 -- a shelf without a fault, or with any
-pub any_shelf : (text : List ℕ) (left left' : Option (List ℕ)) (before after : List ℕ → Type 0) (shelf input out : Type 0) (s : Status) → OfText text left left' before after ⊥ input out s → OfText text left left' before after shelf input out s
-any_shelf text left left' before after shelf input out NoMemory o = o
-any_shelf text left left' before after shelf input out ModuleUnavailable o = absurd o
-any_shelf text left left' before after shelf input out (Refused r p) o = o
-any_shelf text left left' before after shelf input out ReadFault o = o
-any_shelf text left left' before after shelf input out WriteFault o = o
-any_shelf text left left' before after shelf input out Usage o = o
-any_shelf text left left' before after shelf input out status.Ok o = o
-any_shelf text left left' before after shelf input out (BadInput k) o = o
-any_shelf text left left' before after shelf input out (RunFault k q z) o = o
-any_shelf text left left' before after shelf input out StepLimit o = o
-any_shelf text left left' before after shelf input out (BadWitness k) o = o
+pub any_shelf : (text : List ℕ) (greatest : ℕ) (left left' : Option (List ℕ)) (before after : List ℕ → Type 0) (shelf input out : Type 0) (s : Status) → OfText text greatest left left' before after ⊥ input out s → OfText text greatest left left' before after shelf input out s
+any_shelf text greatest left left' before after shelf input out NoMemory o = o
+any_shelf text greatest left left' before after shelf input out ModuleUnavailable o = absurd o
+any_shelf text greatest left left' before after shelf input out (Refused r p) o = o
+any_shelf text greatest left left' before after shelf input out ReadFault o = o
+any_shelf text greatest left left' before after shelf input out WriteFault o = o
+any_shelf text greatest left left' before after shelf input out Usage o = o
+any_shelf text greatest left left' before after shelf input out status.Ok o = o
+any_shelf text greatest left left' before after shelf input out (BadInput k) o = o
+any_shelf text greatest left left' before after shelf input out (RunFault k q z) o = o
+any_shelf text greatest left left' before after shelf input out StepLimit o = o
+any_shelf text greatest left left' before after shelf input out (BadWitness k) o = o

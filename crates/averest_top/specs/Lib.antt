@@ -1,10 +1,4 @@
-pub mod Combinational
-pub mod Drafts
-pub mod Logic
+pub mod Commands
 pub mod Promise
 pub mod Reading
 pub mod Refusals
-pub mod Room
-pub mod Story
-pub mod Taken
-pub mod TraceLines

@@ -1,14 +1,13 @@
 -- What a command promises, over the shelf's texts, the trace, the output and the status.
 use Rattle.std.specs.Prelude.{◌≡◌, ◌⊎◌, ℕ, List, take, Option, Some, None}
 use Rattle.outside.specs.declared.status.Status.{Status}
-use Rattle.outside.specs.declared.status.Status.TheVariants.{Usage, ModuleUnavailable, Refused, BadInput, RunFault, ReadFault, WriteFault, StepLimit, NoMemory, BadWitness}
-use Rattle.outside.specs.declared.status.Status.TheVariants as status
+use Rattle.outside.specs.declared.status.Status.TheVariants.{Usage, ModuleUnavailable, Refused, ReadFault, WriteFault, NoMemory, BadWitness}
 use Rattle.averest_top.specs.declared.reading.TextFault.{TextFault}
 use Rattle.averest_top.specs.declared.reading.TextFault.TheVariants as fault
-use Rattle.averest_top.specs.Logic.{vars_of, body_of}
-use Rattle.averest_top.specs.Combinational.{Wiring}
-use Rattle.averest_top.specs.Reading.{IsBuilt, Refuses}
-use Rattle.averest_top.specs.Story.{Told}
+use Rattle.quartz_tree.specs.Kernel.{Kernel}
+use Rattle.quartz_expr.specs.Vars.{Vars}
+use Rattle.cell_run.specs.Told.{Told, ToldWhole, ToldBegun, Tells}
+use Rattle.averest_top.specs.Reading.{IsAccepted, Refuses}
 
 -- a status comes exactly with its cause, but for want of memory
 abbrev pub ComesWith : (status expected : Status) → (cause : Type 0) → Type 0
@@ -32,13 +31,14 @@ pub record LacksText (texts : Option (List ℕ → Option (List ℕ))) (name : L
 abbrev pub IsExcused : Status → (shelf_rose : Type 0) → Type 0
 IsExcused status shelf_rose = (status ≡ NoMemory) ⊎ ((status ≡ ModuleUnavailable) × shelf_rose)
 
--- a run of this wiring over a trace: it is excused, or a read or a write failed, or it told its story
-abbrev pub Outcome : Wiring → (trace : List ℕ) → (before after : List ℕ → Type 0) → (left : Option (List ℕ)) → (shelf_rose input_rose out_rose : Type 0) → Status → Type 0
-Outcome w trace before after left shelf_rose input_rose out_rose status =
+-- a run of a module over a trace, in at most so many steps: it is excused, or a read failed behind the lines that were done, or a
+-- write failed within the story's lines, or it told its story
+abbrev pub Outcome : Vars → Kernel → (trace : List ℕ) → (greatest : ℕ) → (before after : List ℕ → Type 0) → (left : Option (List ℕ)) → (shelf_rose input_rose out_rose : Type 0) → Status → Type 0
+Outcome vs body trace greatest before after left shelf_rose input_rose out_rose status =
     IsExcused status shelf_rose
-    ⊎ (((status ≡ ReadFault) × input_rose)
-    ⊎ (((status ≡ WriteFault) × out_rose)
-    ⊎ Told (vars_of w.params) (body_of w.conjunctions) trace before after left status))
+    ⊎ (((status ≡ ReadFault) × input_rose × ToldWhole vs body trace greatest before after left)
+    ⊎ (((status ≡ WriteFault) × out_rose × ToldBegun vs body trace greatest before after)
+    ⊎ Told vs body trace greatest before after left status))
 
 -- the statuses with which nothing is read of the trace and nothing written
 abbrev pub ComesBefore : Status → Type 0
@@ -48,37 +48,27 @@ ComesBefore (Refused _ _) = Unit {0}
 ComesBefore NoMemory = Unit {0}
 ComesBefore _ = ⊥
 
--- the statuses of a run
-abbrev pub IsOfRun : Status → Type 0
-IsOfRun status.Ok = Unit {0}
-IsOfRun (BadInput _) = Unit {0}
-IsOfRun ReadFault = Unit {0}
-IsOfRun WriteFault = Unit {0}
-IsOfRun StepLimit = Unit {0}
-IsOfRun _ = ⊥
-
--- the statuses that come while no step of a built module has a fault, and no command asks for a witness
+-- the statuses that come while no command asks for a witness
 abbrev pub CanCome : Status → Type 0
-CanCome (RunFault _ _ _) = ⊥
 CanCome (BadWitness _) = ⊥
 CanCome _ = Unit {0}
 
--- the text is built
-abbrev pub IsRun : List ℕ → Type 0
-IsRun text = (w : Wiring) × IsBuilt text w
+-- the text is accepted, and the run of its module over a trace told what the status says
+abbrev pub IsRun : (text : List ℕ) → (greatest : ℕ) → (left left' : Option (List ℕ)) → (before after : List ℕ → Type 0) → Status → Type 0
+IsRun text greatest left left' before after status =
+    (vs : Vars) × (body : Kernel) × IsAccepted text vs body × ((trace : List ℕ) → left ≡ Some trace → Tells vs body trace greatest before after left' status)
 
--- the status of a text that isn't built
+-- the status of a text that is refused
 abbrev pub refusal_status : TextFault → Status
 refusal_status (fault.Refused rule place) = Refused rule place
 refusal_status fault.NoMemory = NoMemory
 
--- what a status says of the run of a text: by which rule it is refused, or that it is built and what its run told
-abbrev pub OfText : (text : List ℕ) → (left left' : Option (List ℕ)) → (before after : List ℕ → Type 0) → (shelf_rose input_rose out_rose : Type 0) → Status → Type 0
-OfText text left left' before after shelf_rose input_rose out_rose NoMemory = Unit {0}
-OfText text left left' before after shelf_rose input_rose out_rose ModuleUnavailable = shelf_rose
-OfText text left left' before after shelf_rose input_rose out_rose (Refused rule place) = Refuses text rule place
-OfText text left left' before after shelf_rose input_rose out_rose ReadFault = IsRun text × input_rose
-OfText text left left' before after shelf_rose input_rose out_rose WriteFault = IsRun text × out_rose
-OfText text left left' before after shelf_rose input_rose out_rose Usage = ⊥
-OfText text left left' before after shelf_rose input_rose out_rose status =
-    (w : Wiring) × IsBuilt text w × ((trace : List ℕ) → left ≡ Some trace → Told (vars_of w.params) (body_of w.conjunctions) trace before after left' status)
+-- what a status says of the run of a text: by which rule it is refused, or that it is accepted and what its run told
+abbrev pub OfText : (text : List ℕ) → (greatest : ℕ) → (left left' : Option (List ℕ)) → (before after : List ℕ → Type 0) → (shelf_rose input_rose out_rose : Type 0) → Status → Type 0
+OfText text greatest left left' before after shelf_rose input_rose out_rose NoMemory = Unit {0}
+OfText text greatest left left' before after shelf_rose input_rose out_rose ModuleUnavailable = shelf_rose
+OfText text greatest left left' before after shelf_rose input_rose out_rose (Refused rule place) = Refuses text rule place
+OfText text greatest left left' before after shelf_rose input_rose out_rose ReadFault = input_rose × IsRun text greatest left left' before after ReadFault
+OfText text greatest left left' before after shelf_rose input_rose out_rose WriteFault = out_rose × IsRun text greatest left left' before after WriteFault
+OfText text greatest left left' before after shelf_rose input_rose out_rose Usage = ⊥
+OfText text greatest left left' before after shelf_rose input_rose out_rose status = IsRun text greatest left left' before after status

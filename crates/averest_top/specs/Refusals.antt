@@ -1,4 +1,4 @@
--- How the faults of tokens, of the grammar, of names and of types are refused.
+-- How the faults of tokens, of the grammar, of names, of types, of sizes and of orders are refused.
 use Rattle.quartz_lexer.specs.declared.fault.LexFault.{LexFault}
 use Rattle.quartz_lexer.specs.declared.fault.LexFault.TheVariants as lexing
 use Rattle.quartz_parser.specs.declared.fault.ParseFault.{ParseFault}
@@ -7,6 +7,11 @@ use Rattle.quartz_names.specs.declared.fault.NamesFault.{NamesFault}
 use Rattle.quartz_names.specs.declared.fault.NamesFault.TheVariants as naming
 use Rattle.quartz_types.specs.declared.fault.TypeFault.{TypeFault}
 use Rattle.quartz_types.specs.declared.fault.TypeFault.TheVariants as typing
+use Rattle.quartz_lexer.specs.Lexing.{origin}
+use Rattle.surface_depth.specs.declared.fault.CompileFault.{CompileFault}
+use Rattle.surface_depth.specs.declared.fault.CompileFault.TheVariants as compiling
+use Rattle.causality_check.specs.declared.fault.OrderFault.{OrderFault}
+use Rattle.causality_check.specs.declared.fault.OrderFault.TheVariants as ordering
 use Rattle.averest_top.specs.declared.reading.TextFault.{TextFault}
 use Rattle.averest_top.specs.declared.reading.TextFault.TheVariants.{Refused, NoMemory}
 
@@ -25,3 +30,11 @@ names_refusal naming.NoMemory = NoMemory
 abbrev pub types_refusal : TypeFault → TextFault
 types_refusal (typing.Rule r p) = Refused r p
 types_refusal typing.NoMemory = NoMemory
+
+abbrev pub compile_refusal : CompileFault → TextFault
+compile_refusal compiling.S8 = Refused 8 origin
+compile_refusal compiling.NoMemory = NoMemory
+
+abbrev pub order_refusal : OrderFault → TextFault
+order_refusal (ordering.Cycle cells p) = Refused 9 p
+order_refusal ordering.NoMemory = NoMemory

@@ -1,25 +1,24 @@
-ghost use Rattle.std.specs.Prelude.{◌≡◌, ◌∷◌, [], None, false, map};
+ghost use Rattle.std.specs.Prelude.{◌≡◌, ◌∷◌, [], map};
 ghost use Rattle.quartz_tree.specs.Kernel.{kernel};
-ghost use Rattle.quartz_tree.specs.Least.{least_place};
-ghost use Rattle.quartz_tree.specs.Surfaces.{module_tree, written};
-ghost use Rattle.quartz_names.specs.Resolving.{has_call, module_name_breaks, resolved_body, resolved_vars};
-ghost use Rattle.quartz_types.specs.Rules.{first_break};
+ghost use Rattle.quartz_tree.specs.Surfaces.{module_tree};
+ghost use Rattle.quartz_names.specs.Numbered.{IsResolved};
 ghost use Rattle.quartz_lexer.specs.Lexing.{AreTokensOf};
-ghost use Rattle.averest_top.specs.Refusals.{lex_refusal, names_refusal, parse_refusal, types_refusal};
-ghost use Rattle.averest_top.specs.Reading.{JudgedAs, ReadAs, TypesJudgedAs};
+ghost use Rattle.averest_top.specs.Refusals.{compile_refusal, lex_refusal, names_refusal, order_refusal, parse_refusal, types_refusal};
+ghost use Rattle.averest_top.specs.Reading.{BuiltAs, JudgedAs, ReadAs};
 ghost use Rattle.averest_top.specs.declared.reading.TextFault.TheVariants.{NoMemory as no_memory};
 
-use crate::combinational::wire_module;
-use crate::logic::Logic;
+use aif_cells::{Aif, Order};
+use causality_check::{OrderFault, order};
 use quartz_lexer::{LexFault, Tokens, lex};
 use quartz_names::{NamesFault, Resolved, has_call as calls, resolve};
 use quartz_parser::{ParseFault, parse_text};
 use quartz_tree::{Module, NoMemory, Place};
-use quartz_types::{TypeFault, check};
+use quartz_types::{TypeFault, Typed, check};
 use std::alloc::Global;
+use surface_depth::{CompileFault, compile};
 use thiserror::Error;
 
-/// Why a text is not built.
+/// Why a text is not accepted.
 #[derive(Clone, Copy, Debug, PartialEq, Eq, Error)]
 pub enum TextFault {
     #[error("refused S{rule} at {}:{}", .place.line, .place.col)]
@@ -80,71 +79,89 @@ impl From<TypeFault> for TextFault {
     }
 }
 
-// Where what isn't built yet is refused.
+impl From<CompileFault> for TextFault {
+    ghost from_gives = { λ f e. e ≡ compile_refusal f };
+
+    fn from(fault: CompileFault) -> TextFault {
+        match fault {
+            CompileFault::S8 => TextFault::Refused {
+                rule: 8,
+                place: ORIGIN,
+            },
+            CompileFault::NoMemory => TextFault::NoMemory,
+        }
+    }
+}
+
+impl From<OrderFault> for TextFault {
+    ghost from_gives = { λ f e. e ≡ order_refusal f };
+
+    fn from(fault: OrderFault) -> TextFault {
+        match fault {
+            OrderFault::Cycle(_, place) => TextFault::Refused { rule: 9, place },
+            OrderFault::NoMemory => TextFault::NoMemory,
+        }
+    }
+}
+
+/// The cells of a module, and the order in which they are computed.
+#[derive(Debug, Drop)]
+pub struct Machine {
+    pub aif: Aif,
+    pub order: Order,
+}
+
+// Where a module is refused for its size, and what isn't built yet.
 const ORIGIN: Place = Place { line: 1, col: 1 };
 
-// A text that breaks no rule and isn't built yet.
-const NOT_BUILT: TextFault = TextFault::Refused {
+/// What isn't built yet: a text that breaks no rule, or a command.
+pub const NOT_BUILT: TextFault = TextFault::Refused {
     rule: 0,
     place: ORIGIN,
 };
 
-// The logic of a module that breaks no rule.
-#[tactic(auto, using(crate::proofs::ReadingLemmas::formed, crate::proofs::ReadingLemmas::unformed))]
-fn form(alloc: Global, only: &Module) -> Result<Logic, TextFault>
-    requires names { least_place (module_name_breaks (module_tree only.now)) ≡ None }
-    requires calls { has_call (written only.now.body) ≡ false }
-    requires types { first_break (resolved_vars (module_tree only.now)) (resolved_body (module_tree only.now)) ≡ None }
-    ensures { JudgedAs (module_tree only.now ∷ []) result }
+// The cells of a module that is typed and their order, or the first rule behind S7 that it breaks.
+fn build(alloc: Global, typed: &Typed) -> Result<Machine, TextFault>
+    ensures { BuiltAs typed.now.resolved.vars (kernel typed.now.resolved.body) result }
 {
-    match wire_module(alloc, only)? {
-        Some(logic) => Ok(logic),
-        None => Err(NOT_BUILT),
-    }
-}
-
-// Whether a module with these variables and this body breaks none of the rules behind S3, or the first one.
-fn judge_types(alloc: Global, resolved: Resolved) -> Result<(), TextFault>
-    ensures { TypesJudgedAs resolved.vars (kernel resolved.body) result }
-{
-    match check(alloc, resolved) {
-        Ok(_typed) => Ok(()),
+    let aif = match compile(alloc, typed) {
+        Ok(aif) => aif,
+        Err(fault) => return Err(TextFault::from(fault)),
+    };
+    match order(alloc, &aif) {
+        Ok(order) => Ok(Machine { aif, order }),
         Err(fault) => Err(TextFault::from(fault)),
     }
 }
 
-// The logic of a module that breaks no rule of names, or the first rule behind S3 that it breaks.
-#[tactic(auto, using(crate::proofs::ReadingLemmas::badly_typed))]
-fn judge_resolved(alloc: Global, only: &Module, resolved: Resolved) -> Result<Logic, TextFault>
-    requires names { least_place (module_name_breaks (module_tree only.now)) ≡ None }
-    requires calls { has_call (written only.now.body) ≡ false }
-    requires vars { resolved.vars ≡ resolved_vars (module_tree only.now) }
-    requires body { kernel resolved.body ≡ resolved_body (module_tree only.now) }
-    ensures { JudgedAs (module_tree only.now ∷ []) result }
+// The machine of a resolved module, or the first rule behind S3 that it breaks.
+fn build_resolved(alloc: Global, resolved: Resolved) -> Result<Machine, TextFault>
+    requires { IsResolved resolved }
+    ensures { BuiltAs resolved.vars (kernel resolved.body) result }
 {
-    match judge_types(alloc, resolved) {
-        Ok(()) => form(alloc, only),
-        Err(fault) => Err(fault),
+    match check(alloc, resolved) {
+        Ok(typed) => build(alloc, &typed),
+        Err(fault) => Err(TextFault::from(fault)),
     }
 }
 
-// The logic of a module, or the first rule that it breaks.
+// The machine of a module, or the first rule that it breaks.
 #[tactic(auto, using(crate::proofs::ReadingLemmas::with_calls))]
-fn judge(alloc: Global, only: &Module) -> Result<Logic, TextFault>
+fn judge(alloc: Global, only: &Module) -> Result<Machine, TextFault>
     ensures { JudgedAs (module_tree only.now ∷ []) result }
 {
     if calls(&only.body) {
         return Err(NOT_BUILT);
     }
     match resolve(alloc, only) {
-        Ok(resolved) => judge_resolved(alloc, only, resolved),
+        Ok(resolved) => build_resolved(alloc, resolved),
         Err(fault) => Err(TextFault::from(fault)),
     }
 }
 
-// The logic of a text's modules, of which there has to be one.
+// The machine of a text's modules, of which there has to be one.
 #[tactic(auto, using(crate::proofs::ReadingLemmas::not_alone))]
-fn read_modules(alloc: Global, modules: &[Module]) -> Result<Logic, TextFault>
+fn read_modules(alloc: Global, modules: &[Module]) -> Result<Machine, TextFault>
     ensures { JudgedAs (map module_tree modules.now) result }
 {
     if modules.len() == 1 {
@@ -154,8 +171,8 @@ fn read_modules(alloc: Global, modules: &[Module]) -> Result<Logic, TextFault>
     }
 }
 
-// The logic of a text's tokens.
-fn read_tokens(alloc: Global, tokens: &Tokens, text: &[u8]) -> Result<Logic, TextFault>
+// The machine of a text's tokens.
+fn read_tokens(alloc: Global, tokens: &Tokens, text: &[u8]) -> Result<Machine, TextFault>
     requires { AreTokensOf text.now tokens.now }
     ensures { ReadAs text.now result }
 {
@@ -168,8 +185,8 @@ fn read_tokens(alloc: Global, tokens: &Tokens, text: &[u8]) -> Result<Logic, Tex
     }
 }
 
-/// Reads a text: its logic, or the first rule that it breaks.
-pub fn read_text(alloc: Global, text: &[u8]) -> Result<Logic, TextFault>
+/// Reads a text: its cells in order, or the first rule that it breaks.
+pub fn read_text(alloc: Global, text: &[u8]) -> Result<Machine, TextFault>
     ensures { ReadAs text.now result }
 {
     match lex(alloc, text) {

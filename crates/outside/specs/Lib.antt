@@ -1,3 +1,4 @@
+pub mod Arguments
 pub mod Bytes
 pub mod Memory
 pub mod Report

@@ -3,6 +3,7 @@
 #![tactic(auto)]
 
 mod adapters;
+mod arguments;
 mod gate;
 mod memory_shelf;
 mod memory_sink;
@@ -13,6 +14,8 @@ mod source;
 mod status;
 #[cfg(test)]
 mod tests;
+#[cfg(test)]
+mod word_rows;
 mod words;
 
 pub use adapters::{DirShelf, StdSink, StdSource};

@@ -9,6 +9,6 @@ returns-in-Ok-clause-of_text g c = λ text h.
     let fetched : take c.in-Ok.count c.fetch.new.buf ≡ text =
     fetched_text (g.F.Shelf.texts c.args.shelf.now) c.args.name.now text c.fetch.new.buf c.in-Ok.count (c.fetch.auto.buf ∙ c.requires) h
     (subst (λ (named : List ℕ). Fetched (g.F.Shelf.texts c.args.shelf.now) named c.in-Ok.count c.fetch.new.buf) c.text.ensures c.in-Ok.ensures.fetched) in
-    any_shelf text _ _ _ _ _ _ _ c.run_text.result
-    (subst (λ (t : List ℕ). OfText t (g.S.Source.left c.args.input.now) (g.S.Source.left c.run_text.new.input) (g.O.Sink.stands c.args.out.now) (g.O.Sink.stands c.run_text.new.out) ⊥
+    any_shelf text c.args.most_steps _ _ _ _ _ _ _ c.run_text.result
+    (subst (λ (t : List ℕ). OfText t c.args.most_steps (g.S.Source.left c.args.input.now) (g.S.Source.left c.run_text.new.input) (g.O.Sink.stands c.args.out.now) (g.O.Sink.stands c.run_text.new.out) ⊥
     (Rose (g.S.Source.faults c.args.input.now) (g.S.Source.faults c.run_text.new.input)) (Rose (g.O.Sink.faults c.args.out.now) (g.O.Sink.faults c.run_text.new.out)) c.run_text.result) fetched c.run_text.ensures.of_text)

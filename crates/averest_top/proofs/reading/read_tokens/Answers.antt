@@ -1,4 +1,4 @@
-use Rattle.std.proofs.Common.{Err, Ok, map, ap, refl, rules}
+use Rattle.std.proofs.Common.{Err, map, ap}
 use Rattle.quartz_tree.specs.Surfaces.{module_tree}
 use Rattle.averest_top.proofs.ReadingLemmas.{read_as, grammar_refused}
 use Rattle.averest_top.proofs.reading.read_tokens.Goals as goal
