@@ -7,5 +7,4 @@ pub mod LabelLemmas
 pub mod ListLemmas
 pub mod RegisterLemmas
 pub mod ScopeLemmas
-pub mod TestLemmas
 pub mod WholeLemmas

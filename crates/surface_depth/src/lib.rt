@@ -18,6 +18,3 @@ mod sizes;
 
 pub use compiling::compile;
 pub use fault::CompileFault;
-
-#[cfg(test)]
-mod tests;
