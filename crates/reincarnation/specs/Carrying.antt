@@ -1,5 +1,5 @@
--- The store that a scope's registers carry into the next step: that of the copy that was entered last, else that of the
--- depth copy.
+-- The store that a scope's registers carry into the next step: that of the first copy whose `enter` holds, else that of
+-- the depth copy.
 use Rattle.std.specs.Prelude.{ℕ, zero, suc, ◌+◌, Bool, true, false, List, [], ◌∷◌, ◌++◌, length, map, pos, slice_index_or}
 use Rattle.quartz_tree.specs.declared.place.Place.{Place}
 use Rattle.quartz_tree.specs.declared.declare.Storage.{Storage}

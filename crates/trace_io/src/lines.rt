@@ -153,8 +153,7 @@ impl LineReader {
         }
     }
 
-    /// Reads the next line. The source is asked only while no whole line is held, and not again once
-    /// it has ended.
+    /// Reads the next line. The source is not asked where a whole line is held, or where it has ended.
     pub fn read_line<S: Source>(&mut self, input: &mut S) -> Found
         ensures read { Read self.old (S.left input.old) (S.faults input.old) (S.calls input.old) result self.new (S.left input.new) (S.faults input.new) (S.calls input.new) }
         ensures ends { self.old.ended ≡ true → self.new.ended ≡ true }

@@ -202,9 +202,9 @@ impl TraceReader {
     }
 
     /// Reads the next step into a packet, which has room for the inputs' values. The first call takes the
-    /// header too, where there is one. The source is asked only while no whole line is held, and not again
-    /// once it has ended. An answer other than `Step` stays the answer to each later call, and nothing is
-    /// read any more.
+    /// header too, where there is one. Later calls do not ask the source where a whole line is held, or where
+    /// it has ended. An answer other than `Step` stays the answer to each later call, and nothing is read any
+    /// more.
     pub fn read_step<S: Source>(&mut self, input: &mut S, into: &mut Packet) -> ReadStep
         requires { length self.old.trail.course.last ≤ vec_capacity into.old.values }
         ensures read { self.old.over ≡ None → ReadTrace self.old.trail (S.left input.old) (S.faults input.old) (S.calls input.old) result self.new.trail into.new.values.items (S.left input.new) (S.faults input.new) (S.calls input.new) }
