@@ -1,0 +1,16 @@
+pub mod TruthLemmas
+pub mod WayLemmas
+pub mod MeetLemmas
+pub mod ListLemmas
+pub mod ExplainLemmas
+pub mod CopyLemmas
+pub mod StillLemmas
+pub mod AddLemmas
+pub mod ScopeAddLemmas
+pub mod WalkAddLemmas
+pub mod QuietLemmas
+pub mod EndAddLemmas
+pub mod LooseLemmas
+pub mod NextQuietLemmas
+pub mod FaultLemmas
+pub mod RunLooseLemmas

@@ -1,0 +1,4 @@
+pub mod BuildLemmas
+pub mod FrontLemmas
+pub mod LeastLemmas
+pub mod OneLemmas

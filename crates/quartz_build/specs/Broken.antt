@@ -1,0 +1,106 @@
+-- Which texts are accepted, and which are refused by which rule.
+use Rattle.std.specs.Prelude.{◌≡◌, ℕ, Bool, true, false, List, [], ◌∷◌, Option, Some, None, if◌then◌else◌}
+use Rattle.quartz_tree.specs.declared.place.Place.{Place}
+use Rattle.quartz_tree.specs.Least.{is_before, least_place}
+use Rattle.quartz_tree.specs.Surfaces.{ModuleTree}
+use Rattle.quartz_lexer.specs.Lexing.{Lexeme, Lexes, Breaks, origin, place_after}
+use Rattle.quartz_parser.specs.Parsing.{DerivesText, HasText, Breaks as Stops}
+use Rattle.quartz_expr.specs.Terms.{Term, term_of}
+use Rattle.quartz_names.specs.Resolving.{has_call, module_name_breaks, resolved_body, resolved_vars}
+use Rattle.quartz_types.specs.Rules.{first_break, with_rule}
+use Rattle.causality_check.specs.Order.{HasNoCycle, IsCycleAt}
+use Rattle.statement_cells.specs.Whole.{Compiled, compiled}
+use Rattle.surface_depth.specs.Compiling.{is_too_large}
+use Rattle.write_conflicts.specs.Loose.{Scene, IsLoosePair, later_place}
+
+-- ---- the text and its kinds
+
+-- the text has these modules
+pub record IsTextOf (text : List ℕ) (modules : List ModuleTree) : Type 0 where
+  pub tokens : List Lexeme
+  pub lexes : Lexes text tokens
+  pub derives : DerivesText tokens modules
+
+-- rule 0, which stands for 'not built yet'
+abbrev pub unbuilt : Option (ℕ × Place)
+unbuilt = Some (0, origin)
+
+-- the first of the rules S3 to S7 that a module breaks, and its least place. With a call no rule is asked, since calls are not linked
+-- yet
+abbrev pub first_broken : ModuleTree → Option (ℕ × Place)
+first_broken m =
+    if has_call m.body then unbuilt
+    else with_rule 3 (least_place (module_name_breaks m)) (first_break (resolved_vars m) (resolved_body m))
+
+-- the same of a text's modules, of which there has to be one
+abbrev pub refusal_of : List ModuleTree → Option (ℕ × Place)
+refusal_of (m ∷ []) = first_broken m
+refusal_of _ = unbuilt
+
+-- the text is refused by its front: S1 where it breaks into no tokens, S2 where these derive no modules, and else the first of the
+-- rules S3 to S7 that the modules break
+pub data BreaksEarly : List ℕ → (rule : ℕ) → Place → Type 0 where
+  by_tokens : (text : List ℕ) (p : Place) → Breaks text p → BreaksEarly text 1 p
+  by_grammar : (text : List ℕ) (tokens : List Lexeme) (p : Place) → Lexes text tokens → Stops HasText tokens (place_after origin text) p → BreaksEarly text 2 p
+  by_rule : (text : List ℕ) (modules : List ModuleTree) (r : ℕ) (p : Place) → IsTextOf text modules → refusal_of modules ≡ Some (r, p) → BreaksEarly text r p
+
+-- the text is this one module, which breaks none of the rules S1 to S7
+pub record IsWellTyped (text : List ℕ) (source : ModuleTree) : Type 0 where
+  pub read : IsTextOf text (source ∷ [])
+  pub unbroken : first_broken source ≡ None
+
+-- ---- the cells
+
+-- the term of a module
+abbrev pub term_in : ModuleTree → Term
+term_in m = term_of (resolved_body m)
+
+-- what a module is compiled to
+abbrev pub compiled_of : ModuleTree → Compiled
+compiled_of m = compiled (resolved_vars m) (term_in m)
+
+-- what tells of a module's actions whether they can meet
+abbrev pub scene_in : ModuleTree → Scene
+scene_in m = record { cells = (compiled_of m).cells; ways = (compiled_of m).paths; made = (compiled_of m).made }
+
+-- some loose pair of a module has this place: the later of the places of its two writes
+pub record IsPlaceOfPair (m : ModuleTree) (p : Place) : Type 0 where
+  pub i : ℕ
+  pub j : ℕ
+  pub pair : IsLoosePair (scene_in m) (compiled_of m).actions i j
+  pub later : later_place pair.first.place pair.second.place ≡ p
+
+-- the least place of a loose pair
+pub record IsLeastPlace (m : ModuleTree) (p : Place) : Type 0 where
+  pub of_pair : IsPlaceOfPair m p
+  pub none_before : (q : Place) → IsPlaceOfPair m q → is_before q p ≡ false
+
+-- a module is refused for its cells: S8 where they are too many; else S9 where they have a cycle, at the place of its first cell;
+-- else, where loose pairs of writes are refused, S10 at the least place of one
+pub data BreaksLate (is_strict : Bool) (m : ModuleTree) : (rule : ℕ) → Place → Type 0 where
+  by_size : is_too_large (resolved_vars m) (term_in m) ≡ true → BreaksLate is_strict m 8 origin
+  by_cycle : (cycle : List ℕ) (p : Place) → is_too_large (resolved_vars m) (term_in m) ≡ false → IsCycleAt (compiled_of m).cells cycle p → BreaksLate is_strict m 9 p
+  by_pair : (p : Place) → is_too_large (resolved_vars m) (term_in m) ≡ false → HasNoCycle (compiled_of m).cells → is_strict ≡ true
+      → IsLeastPlace m p → BreaksLate is_strict m 10 p
+
+-- a module has no loose pair of writes
+abbrev pub HasNoPair : ModuleTree → Type 0
+HasNoPair m = (i j : ℕ) → ¬ IsLoosePair (scene_in m) (compiled_of m).actions i j
+
+-- and it breaks none of these rules
+pub record HasGoodCells (is_strict : Bool) (m : ModuleTree) : Type 0 where
+  pub fits : is_too_large (resolved_vars m) (term_in m) ≡ false
+  pub acyclic : HasNoCycle (compiled_of m).cells
+  pub tight : is_strict ≡ true → HasNoPair m
+
+-- ---- the whole
+
+-- the text is refused by this rule at this place, the first that it breaks. S10 counts only where loose pairs are refused
+pub data Refuses (is_strict : Bool) : List ℕ → (rule : ℕ) → Place → Type 0 where
+  early : (text : List ℕ) (r : ℕ) (p : Place) → BreaksEarly text r p → Refuses is_strict text r p
+  late : (text : List ℕ) (m : ModuleTree) (r : ℕ) (p : Place) → IsWellTyped text m → BreaksLate is_strict m r p → Refuses is_strict text r p
+
+-- the text is this one module, which breaks no rule
+pub record IsAccepted (is_strict : Bool) (text : List ℕ) (source : ModuleTree) : Type 0 where
+  pub typed : IsWellTyped text source
+  pub good : HasGoodCells is_strict source

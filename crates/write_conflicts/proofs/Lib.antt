@@ -1,0 +1,9 @@
+pub mod BitLemmas
+pub mod MustLemmas
+pub mod OrderLemmas
+pub mod TableLemmas
+pub mod SaidLemmas
+pub mod ReachLemmas
+pub mod ClaimLemmas
+pub mod ClashLemmas
+pub mod TallyLemmas
