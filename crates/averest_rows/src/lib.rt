@@ -2,11 +2,15 @@
 #![tactic(auto)]
 
 #[cfg(test)]
+mod counted;
+#[cfg(test)]
 mod nested;
 #[cfg(test)]
 mod rows;
 #[cfg(test)]
 mod static_rules;
+#[cfg(test)]
+mod tasks;
 #[cfg(test)]
 mod texts;
 #[cfg(test)]

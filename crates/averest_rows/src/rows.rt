@@ -28,13 +28,21 @@ fn names(alloc: Global, words: &[&str]) -> Result<Vec<Name>, Fail> {
     Ok(names)
 }
 
-/// The status's number, then the output and the report, where each read gives at most so many bytes.
-fn outcome_in(
+/// How a case ended: the status's number, the output and the report.
+#[derive(Drop)]
+pub(crate) struct Ended {
+    pub number: u8,
+    pub written: String,
+    pub reported: String,
+}
+
+// How a case ends where each read gives at most so many bytes.
+fn end_in(
     rt: &(impl Threads + Sync),
     alloc: Global,
     case: Case,
     pieces: &[u32],
-) -> Result<String, Fail>
+) -> Result<Ended, Fail>
     requires { All (λ n. 1 ≤ n) pieces.now }
 {
     let mut shelf = MemShelf::new(alloc, &[])?;
@@ -53,9 +61,33 @@ fn outcome_in(
         &mut report,
         &NoGate,
     );
-    let number = status.number();
     let written = str::from_utf8(out.bytes())?;
     let reported = str::from_utf8(report.bytes())?;
+    Ok(Ended {
+        number: status.number(),
+        written: format!(in alloc; "{written}")?,
+        reported: format!(in alloc; "{reported}")?,
+    })
+}
+
+/// How a case ends.
+pub(crate) fn end_of(rt: &(impl Threads + Sync), alloc: Global, case: Case) -> Result<Ended, Fail> {
+    end_in(rt, alloc, case, &[1, 3, 2])
+}
+
+/// The status's number, then the output and the report, where each read gives at most so many bytes.
+fn outcome_in(
+    rt: &(impl Threads + Sync),
+    alloc: Global,
+    case: Case,
+    pieces: &[u32],
+) -> Result<String, Fail>
+    requires { All (λ n. 1 ≤ n) pieces.now }
+{
+    let ended = end_in(rt, alloc, case, pieces)?;
+    let number = ended.number;
+    let written = ended.written.as_str();
+    let reported = ended.reported.as_str();
     Ok(format!(in alloc; "{number}|{written}|{reported}")?)
 }
 
@@ -81,6 +113,13 @@ pub(crate) fn run<'a>(text: &'a [u8], trace: &'a [u8]) -> Case<'a> {
 
 pub(crate) fn with_words<'a>(words: &'a [&'a str], case: Case<'a>) -> Case<'a> {
     Case { words, ..case }
+}
+
+pub(crate) fn with_failing_put<'a>(failing_puts: &'a [u64], case: Case<'a>) -> Case<'a> {
+    Case {
+        failing_puts,
+        ..case
+    }
 }
 
 #[test]
@@ -422,6 +461,7 @@ fn reports_words_and_faults(rt: HostRuntime) -> Result<(), Fail> {
 #[test]
 fn obeys_words(rt: HostRuntime) -> Result<(), Fail> {
     let done = "0|1\n0\n|";
+    let unavailable = "2||averest: module unavailable\n";
     let unbuilt = "3||averest: refused S0 at 1:1\n";
     let table: [(&[&str], &str); 15] = [
         (&["run", "--", "M"], done),
@@ -436,12 +476,16 @@ fn obeys_words(rt: HostRuntime) -> Result<(), Fail> {
             "8|1\n|averest: step limit\n",
         ),
         (&["run", "--max-steps=2", "M"], done),
+        // texts that the shelf lacks
+        (&["check", "Absent", "--strict"], unavailable),
+        (&["aif", "Absent"], unavailable),
+        (
+            &["load", "Absent", "--seed", "1", "--steps", "1"],
+            unavailable,
+        ),
         // commands that aren't built, before the shelf is asked
         (&["run", "Absent", "--witness"], unbuilt),
-        (&["check", "Absent", "--strict"], unbuilt),
-        (&["aif", "Absent"], unbuilt),
         (&["plan", "Absent", "--stages", "2"], unbuilt),
-        (&["load", "Absent", "--seed", "1", "--steps", "1"], unbuilt),
         (&["convert", "Absent", "--to", "2"], unbuilt),
         (&["verify", "Absent"], unbuilt),
         // words that are none

@@ -1,17 +1,40 @@
--- What holds of a command's run holds of the run that is meant.
-use Rattle.std.proofs.Common.{◌≡◌, ℕ, Bool, true, false, List, Some, None, sym, ap, subst, ◌∙◌}
-use Rattle.std.specs.Prelude.{Option, unwrap_or}
+-- What holds of a command's task holds of the task that is meant.
+use Rattle.std.proofs.Common.{◌≡◌, ℕ, List, Some, None, refl, sym, ap, subst, ◌∙◌}
+use Rattle.std.specs.Prelude.{Option, unwrap_or, option_map, option_and_then}
 use Rattle.outside.specs.declared.words.Command.{Command}
-use Rattle.outside.specs.declared.words.Command.TheVariants.{Run}
-use Rattle.averest_top.specs.Commands.{built_run}
+use Rattle.outside.specs.Words.{meant}
+use Rattle.averest_top.specs.declared.task.Task.{Task}
+use Rattle.averest_top.specs.Commands.{asked_in, calls_asked, calls_of, module_in, task_in, task_meant}
 
--- two runs that are the same
-same_run : (P : List ℕ → ℕ → Type 0) (name other : List ℕ) (most greatest : ℕ) → ◌≡◌ {A = Option (List ℕ × ℕ)} (Some (name, most)) (Some (other, greatest)) → P name most → P other greatest
-same_run P name other most greatest e p = subst (λ (r : List ℕ × ℕ). P r.0 r.1) (ap (λ (o : Option (List ℕ × ℕ)). unwrap_or o (name, most)) e) p
+-- words that mean a command mean its task
+pub task_of_words : (words : List (List ℕ)) (c : Command) (r : Option (List ℕ × Task)) → meant words ≡ Some c → task_meant words ≡ r → asked_in c ≡ r
+task_of_words words c r h k = sym (ap (λ m. option_and_then asked_in m) h) ∙ k
 
-pub of_run : (P : List ℕ → ℕ → Type 0) (c : Command) (name : List ℕ) (stages workers ring most : ℕ) (witness : Bool) (other : List ℕ) (greatest : ℕ) → c ≡ Run name stages workers ring most witness
-    → built_run c ≡ Some (other, greatest) → P name most → P other greatest
-of_run P c name stages workers ring most false other greatest is m p = same_run P name other most greatest (sym (ap (λ d. built_run d) is) ∙ m) p
-of_run P c name stages workers ring most true other greatest is m p =
-    let none : ◌≡◌ {A = Option (List ℕ × ℕ)} None (Some (other, greatest)) = sym (ap (λ d. built_run d) is) ∙ m in
-    cc
+-- a task and its module are those of the command
+pub same_task : (P : List ℕ → Task → Type 0) (c : Command) (own : List ℕ) (t : Task) (name : List ℕ) (other : Task) → own ≡ module_in c → Some t ≡ task_in c → asked_in c ≡ Some (name, other) → P own t → P name other
+same_task P c own t name other m e a p =
+    let both : ◌≡◌ {A = Option (List ℕ × Task)} (Some (own, t)) (Some (name, other)) =
+    ap (λ (n : List ℕ). Some (n, t)) m ∙ (ap (λ (o : Option Task). option_map (λ u. (module_in c, u)) o) e ∙ a) in
+    subst (λ (r : List ℕ × Task). P r.0 r.1) (ap (λ (o : Option (List ℕ × Task)). unwrap_or o (name, other)) both) p
+
+-- a command of which nothing is asked has no task
+pub no_task : (c : Command) → asked_in c ≡ None → task_in c ≡ None
+no_task c h = by_task (task_in c) h
+  where
+    by_task : (o : Option Task) → option_map {U = List ℕ × Task} (λ t. (module_in c, t)) o ≡ None → o ≡ None
+    by_task None e = refl
+    by_task (Some t) e = absurd (cc e)
+
+-- it asks the source as often as its task
+pub calls_of_task : (c : Command) (t : Task) → Some t ≡ task_in c → calls_of t ≡ calls_asked (asked_in c)
+calls_of_task c t e = ap (λ (o : Option Task). calls_asked (option_map (λ u. (module_in c, u)) o)) e
+
+-- and words as often as the command that they mean
+pub calls_of_words : (words : List (List ℕ)) (c : Command) → meant words ≡ Some c → calls_asked (asked_in c) ≡ calls_asked (task_meant words)
+calls_of_words words c h = ap (λ (m : Option Command). calls_asked (option_and_then asked_in m)) (sym h)
+
+-- a command without a task asks for no module
+pub never_asked : (c : Command) (name : List ℕ) (t : Task) {X : Type 0} → None ≡ task_in c → asked_in c ≡ Some (name, t) → X
+never_asked c name t e a =
+    let both : ◌≡◌ {A = Option (List ℕ × Task)} None (Some (name, t)) = ap (λ (o : Option Task). option_map (λ u. (module_in c, u)) o) e ∙ a in
+    absurd (cc both)

@@ -1,3 +1,4 @@
 pub mod CommandLemmas
 pub mod PromiseLemmas
-pub mod ReadingLemmas
+pub mod TaskLemmas
+pub mod SizeLemmas

@@ -1,115 +1,168 @@
--- From what is known of a text's run to what is promised of it.
-use Rattle.std.proofs.Common.{◌≡◌, ◌⊎◌, inl, inr, ℕ, min, List, length, take, arith, Option, Some, None, Ok, Err, refl, sym, ap, ap₂, subst, ◌∙◌}
-use Rattle.std.specs.Prelude.{option_and_then}
+-- From what is known of a task on a text to what is promised of it.
+use Rattle.std.proofs.Common.{◌≡◌, ◌⊎◌, inl, inr, ℕ, Bool, true, false, min, List, length, take, arith, Option, Some, None, Result, Err, refl, sym, ap, ap₂, subst, ◌∙◌}
+use Rattle.std.proofs.lemmas.Grind.{common_steps}
 use Rattle.quartz_tree.specs.declared.place.Place.{Place}
+use Rattle.quartz_tree.specs.Surfaces.{ModuleTree}
+use Rattle.quartz_names.specs.Resolving.{resolved_body, resolved_vars}
+use Rattle.outside.specs.Bytes.{Fetched, Rose, Unfetched}
 use Rattle.outside.specs.declared.status.Status.{Status}
-use Rattle.outside.specs.declared.words.Command.{Command}
-use Rattle.outside.specs.Words.{meant}
 use Rattle.outside.specs.declared.status.Status.TheVariants.{Usage, ModuleUnavailable, Refused, BadInput, RunFault, ReadFault, WriteFault, StepLimit, NoMemory, BadWitness}
 use Rattle.outside.specs.declared.status.Status.TheVariants as status
-use Rattle.quartz_tree.specs.Kernel.{Kernel}
-use Rattle.quartz_expr.specs.Vars.{Vars}
-use Rattle.cell_run.specs.Machine.{Executes}
-use Rattle.cell_run.specs.Told.{IsOfRun, Tells}
-use Rattle.averest_top.specs.declared.reading.Machine.{Machine}
-use Rattle.averest_top.specs.declared.reading.TextFault.{TextFault}
-use Rattle.averest_top.specs.declared.reading.TextFault.TheVariants as fault
-use Rattle.averest_top.specs.Reading.{IsAccepted, Refuses, ReadAs}
-use Rattle.std.proofs.lemmas.Grind.{common_steps}
-use Rattle.outside.specs.Bytes.{Fetched, Unfetched, Rose}
-use Rattle.averest_top.specs.Promise.{HasText, LacksText, IsExcused, Outcome, ComesBefore, OfText, refusal_status}
-use Rattle.averest_top.specs.Commands.{built_run, run_meant}
-use Rattle.averest_top.proofs.ReadingLemmas.{one_module, one_refusal, not_refused}
+use Rattle.quartz_build.specs.declared.fault.BuildFault.{BuildFault}
+use Rattle.quartz_build.specs.declared.fault.BuildFault.TheVariants as fault
+use Rattle.quartz_build.specs.declared.building.Built.{Built}
+use Rattle.quartz_build.specs.Broken.{IsAccepted, Refuses}
+use Rattle.quartz_build.specs.Parts.{BuildsAs}
+use Rattle.quartz_build.proofs.OneLemmas.{not_refused, one_module, one_refusal}
+use Rattle.averest_top.specs.declared.task.Task.{Task}
+use Rattle.averest_top.specs.declared.task.Task.TheVariants as task
+use Rattle.averest_top.specs.Commands.{is_strict_in, wants_pairs_in}
+use Rattle.averest_top.specs.Tasks.{Does, IsOfTask, RunsAs}
+use Rattle.averest_top.specs.Promise.{CanCome, ComesBefore, HasText, IsDone, IsExcused, LacksText, OfText, Outcome, refusal_status}
 
--- words that mean a command mean its run
-pub run_of_command : (words : List (List ℕ)) (c : Command) (r : Option (List ℕ × ℕ)) → meant words ≡ Some c → run_meant words ≡ r → built_run c ≡ r
-run_of_command words c r h k = sym (ap (λ m. option_and_then built_run m) h) ∙ k
+module _ (text : List ℕ) (t : Task) (left left' : Option (List ℕ)) (before after : List ℕ → Type 0) (shelf input out : Type 0) where
+  abbrev IsOf : Status → Type 0
+  IsOf s = OfText text t left left' before after shelf input out s
 
--- a text that isn't built
-pub refused_text : (text : List ℕ) (greatest : ℕ) (left left' : Option (List ℕ)) (before after : List ℕ → Type 0) (shelf input out : Type 0) (f : TextFault) → ReadAs text (Err f) → OfText text greatest left left' before after shelf input out (refusal_status f)
-refused_text text greatest left left' before after shelf input out (fault.Refused r p) h = h
-refused_text text greatest left left' before after shelf input out fault.NoMemory h = tt
+  -- a text that isn't built
+  pub refused_text : (wants : Bool) (f : BuildFault) → BuildsAs (is_strict_in t) wants text (Err f) → IsOf (refusal_status f)
+  refused_text wants (fault.Refused r p) h = h
+  refused_text wants fault.NoMemory h = tt
 
-pub refused_before : (f : TextFault) → ComesBefore (refusal_status f)
-refused_before (fault.Refused r p) = tt
-refused_before fault.NoMemory = tt
+  -- a task that was done
+  pub done_text : (m : ModuleTree) (s : Status) → IsAccepted (is_strict_in t) text m → IsOfTask s → (s ≡ NoMemory) ⊎ Does t m left left' before after input out s → IsOf s
+  done_text m s a o (inl e) = subst IsOf (sym e) tt
+  done_text m status.Ok a o (inr d) = (m, a, d)
+  done_text m (BadInput k) a o (inr d) = (m, a, d)
+  done_text m (RunFault k q p) a o (inr d) = (m, a, d)
+  done_text m ReadFault a o (inr d) = (m, a, d)
+  done_text m WriteFault a o (inr d) = (m, a, d)
+  done_text m StepLimit a o (inr d) = (m, a, d)
+  done_text m NoMemory a o (inr d) = tt
+  done_text m Usage a o d = absurd o
+  done_text m ModuleUnavailable a o d = absurd o
+  done_text m (Refused q p) a o d = absurd o
+  done_text m (BadWitness k) a o d = absurd o
 
--- a run that was told
-pub told_text : (text : List ℕ) (m : Machine) (greatest : ℕ) (left left' : Option (List ℕ)) (before after : List ℕ → Type 0) (shelf input out : Type 0) (s : Status) → ReadAs text (Ok m) → IsOfRun s
-    → (s ≡ ReadFault → input) → (s ≡ WriteFault → out)
-    → ((vs : Vars) (body : Kernel) → Executes vs body m.aif → (trace : List ℕ) → left ≡ Some trace → Tells vs body trace greatest before after left' s)
-    → OfText text greatest left left' before after shelf input out s
-told_text text m greatest left left' before after shelf input out status.Ok (vs, body, b, i) r f g t = (vs, body, b, t vs body i.executes)
-told_text text m greatest left left' before after shelf input out (BadInput k) (vs, body, b, i) r f g t = (vs, body, b, t vs body i.executes)
-told_text text m greatest left left' before after shelf input out (RunFault k q p) (vs, body, b, i) r f g t = (vs, body, b, t vs body i.executes)
-told_text text m greatest left left' before after shelf input out StepLimit (vs, body, b, i) r f g t = (vs, body, b, t vs body i.executes)
-told_text text m greatest left left' before after shelf input out ReadFault (vs, body, b, i) r f g t = (f refl, (vs, body, b, t vs body i.executes))
-told_text text m greatest left left' before after shelf input out WriteFault (vs, body, b, i) r f g t = (g refl, (vs, body, b, t vs body i.executes))
-told_text text m greatest left left' before after shelf input out Usage h r f g t = absurd r
-told_text text m greatest left left' before after shelf input out ModuleUnavailable h r f g t = absurd r
-told_text text m greatest left left' before after shelf input out (Refused q p) h r f g t = absurd r
-told_text text m greatest left left' before after shelf input out NoMemory h r f g t = absurd r
-told_text text m greatest left left' before after shelf input out (BadWitness k) h r f g t = absurd r
+  not_both : (m : ModuleTree) (r : ℕ) (p : Place) {X : Type 0} → IsAccepted (is_strict_in t) text m → Refuses (is_strict_in t) text r p → X
+  not_both m r p a h = absurd (not_refused (is_strict_in t) text m r p a h)
 
--- a status of a run doesn't come before it
-pub run_not_before : (s : Status) → IsOfRun s → ComesBefore s → ⊥
-run_not_before status.Ok r b = b
-run_not_before (BadInput k) r b = b
-run_not_before StepLimit r b = b
-run_not_before ReadFault r b = b
-run_not_before WriteFault r b = b
-run_not_before Usage r b = r
-run_not_before ModuleUnavailable r b = r
-run_not_before (Refused q p) r b = r
-run_not_before (RunFault k q p) r b = b
-run_not_before NoMemory r b = r
-run_not_before (BadWitness k) r b = r
+  -- a text is refused exactly by its rule
+  pub refused_exactly : (s : Status) → IsOf s → (r : ℕ) (p : Place) → (s ≡ Refused r p → Refuses (is_strict_in t) text r p) × (Refuses (is_strict_in t) text r p → (s ≡ Refused r p) ⊎ IsExcused s shelf)
+  refused_exactly s o r p = (λ e. subst IsOf e o, exactly s o)
+    where
+      exactly : (s : Status) → IsOf s → Refuses (is_strict_in t) text r p → (s ≡ Refused r p) ⊎ IsExcused s shelf
+      exactly NoMemory o h = inr (inl refl)
+      exactly ModuleUnavailable o h = inr (inr (refl, o))
+      exactly (Refused q z) o h =
+          let same = one_refusal (is_strict_in t) text q r z p o h in
+          inl (ap₂ (λ (a : ℕ) (b : Place). Refused a b) same.0 same.1)
+      exactly Usage o h = absurd o
+      exactly ReadFault o h = not_both o.0 r p o.1 h
+      exactly WriteFault o h = not_both o.0 r p o.1 h
+      exactly status.Ok o h = not_both o.0 r p o.1 h
+      exactly (BadInput k) o h = not_both o.0 r p o.1 h
+      exactly (RunFault k q z) o h = not_both o.0 r p o.1 h
+      exactly StepLimit o h = not_both o.0 r p o.1 h
+      exactly (BadWitness k) o h = not_both o.0 r p o.1 h
 
--- a text is refused exactly by its rule
-pub refused_exactly : (text : List ℕ) (greatest : ℕ) (left left' : Option (List ℕ)) (before after : List ℕ → Type 0) (shelf input out : Type 0) (s : Status) → OfText text greatest left left' before after shelf input out s → (r : ℕ) (p : Place)
-    → (s ≡ Refused r p → Refuses text r p) × (Refuses text r p → (s ≡ Refused r p) ⊎ IsExcused s shelf)
-refused_exactly text greatest left left' before after shelf input out s o r p = (only s o, exactly s o)
+  -- with a status behind the build the text is accepted
+  pub accepted_else : (s : Status) → IsOf s → ComesBefore s ⊎ ((m : ModuleTree) × IsAccepted (is_strict_in t) text m)
+  accepted_else NoMemory o = inl tt
+  accepted_else ModuleUnavailable o = inl tt
+  accepted_else (Refused q z) o = inl tt
+  accepted_else Usage o = inl tt
+  accepted_else ReadFault o = inr (o.0, o.1)
+  accepted_else WriteFault o = inr (o.0, o.1)
+  accepted_else status.Ok o = inr (o.0, o.1)
+  accepted_else (BadInput k) o = inr (o.0, o.1)
+  accepted_else (RunFault k q z) o = inr (o.0, o.1)
+  accepted_else StepLimit o = inr (o.0, o.1)
+  accepted_else (BadWitness k) o = inr (o.0, o.1)
+
+  -- and a text that is accepted has its task done
+  pub accepted_does : (s : Status) → IsOf s → (m : ModuleTree) → IsAccepted (is_strict_in t) text m → IsExcused s shelf ⊎ Does t m left left' before after input out s
+  accepted_does s o m a = by_status s o
+    where
+      done : (s : Status) → IsDone text t left left' before after input out s → Does t m left left' before after input out s
+      done s (n, b, d) = subst (λ (k : ModuleTree). Does t k left left' before after input out s) (one_module (is_strict_in t) (is_strict_in t) text n m b a) d
+
+      by_status : (s : Status) → IsOf s → IsExcused s shelf ⊎ Does t m left left' before after input out s
+      by_status NoMemory o = inl (inl refl)
+      by_status ModuleUnavailable o = inl (inr (refl, o))
+      by_status (Refused r p) o = not_both m r p a o
+      by_status Usage o = absurd o
+      by_status ReadFault o = inr (done ReadFault o)
+      by_status WriteFault o = inr (done WriteFault o)
+      by_status status.Ok o = inr (done status.Ok o)
+      by_status (BadInput k) o = inr (done (BadInput k) o)
+      by_status (RunFault k q z) o = inr (done (RunFault k q z) o)
+      by_status StepLimit o = inr (done StepLimit o)
+      by_status (BadWitness k) o = inr (done (BadWitness k) o)
+
+-- a run tells its story
+pub run_outcome : (text : List ℕ) (greatest : ℕ) (left left' : Option (List ℕ)) (before after : List ℕ → Type 0) (shelf input out : Type 0) (s : Status) → OfText text (task.Run greatest) left left' before after shelf input out s
+    → (m : ModuleTree) (trace : List ℕ) → IsAccepted false text m → left ≡ Some trace → Outcome (resolved_vars m) (resolved_body m) trace greatest before after left' shelf input out s
+run_outcome text greatest left left' before after shelf input out s o m trace a e = which (accepted_does text (task.Run greatest) left left' before after shelf input out s o m a)
   where
-    only : (s : Status) → OfText text greatest left left' before after shelf input out s → s ≡ Refused r p → Refuses text r p
-    only s o e = subst (OfText text greatest left left' before after shelf input out) e o
+    told : (s : Status) → RunsAs (resolved_vars m) (resolved_body m) greatest left left' before after input out s → Outcome (resolved_vars m) (resolved_body m) trace greatest before after left' shelf input out s
+    told ReadFault d = inr (inl (refl, d.0 refl, d.2 trace e))
+    told WriteFault d = inr (inr (inl (refl, d.1 refl, d.2 trace e)))
+    told status.Ok d = inr (inr (inr (d.2 trace e)))
+    told (BadInput k) d = inr (inr (inr (d.2 trace e)))
+    told (RunFault k q p) d = inr (inr (inr (d.2 trace e)))
+    told StepLimit d = inr (inr (inr (d.2 trace e)))
+    told NoMemory d = inr (inr (inr (d.2 trace e)))
+    told Usage d = inr (inr (inr (d.2 trace e)))
+    told ModuleUnavailable d = inr (inr (inr (d.2 trace e)))
+    told (Refused q p) d = inr (inr (inr (d.2 trace e)))
+    told (BadWitness k) d = inr (inr (inr (d.2 trace e)))
 
-    exactly : (s : Status) → OfText text greatest left left' before after shelf input out s → Refuses text r p → (s ≡ Refused r p) ⊎ IsExcused s shelf
-    exactly NoMemory o h = inr (inl refl)
-    exactly ModuleUnavailable o h = inr (inr (refl, o))
-    exactly (Refused q z) o h =
-        let same = one_refusal text q r z p o h in
-        inl (ap₂ (λ (a : ℕ) (b : Place). Refused a b) same.0 same.1)
-    exactly ReadFault (o, (vs, k, b, t)) h = absurd (not_refused text vs k r p b h)
-    exactly WriteFault (o, (vs, k, b, t)) h = absurd (not_refused text vs k r p b h)
-    exactly Usage o h = absurd o
-    exactly status.Ok (vs, j, b, t) h = absurd (not_refused text vs j r p b h)
-    exactly (BadInput k) (vs, j, b, t) h = absurd (not_refused text vs j r p b h)
-    exactly (RunFault k q z) (vs, j, b, t) h = absurd (not_refused text vs j r p b h)
-    exactly StepLimit (vs, j, b, t) h = absurd (not_refused text vs j r p b h)
-    exactly (BadWitness k) (vs, j, b, t) h = absurd (not_refused text vs j r p b h)
+    which : IsExcused s shelf ⊎ RunsAs (resolved_vars m) (resolved_body m) greatest left left' before after input out s → Outcome (resolved_vars m) (resolved_body m) trace greatest before after left' shelf input out s
+    which (inl x) = inl x
+    which (inr d) = told s d
 
--- a text that is accepted tells its story
-pub accepted_outcome : (text : List ℕ) (greatest : ℕ) (left left' : Option (List ℕ)) (before after : List ℕ → Type 0) (shelf input out : Type 0) (s : Status) → OfText text greatest left left' before after shelf input out s
-    → (vs : Vars) (body : Kernel) (trace : List ℕ) → IsAccepted text vs body → left ≡ Some trace → Outcome vs body trace greatest before after left' shelf input out s
-accepted_outcome text greatest left left' before after shelf input out s o vs body trace b e = by_status s o
-  where
-    told : (us : Vars) (j : Kernel) (s : Status) → IsAccepted text us j → Tells us j trace greatest before after left' s → Tells vs body trace greatest before after left' s
-    told us j s c t =
-        let same = one_module text us vs j body c b in
-        subst (λ (xs : Vars). Tells xs body trace greatest before after left' s) same.0 (subst (λ (k : Kernel). Tells us k trace greatest before after left' s) same.1 t)
+-- ---- statuses
 
-    by_status : (s : Status) → OfText text greatest left left' before after shelf input out s → Outcome vs body trace greatest before after left' shelf input out s
-    by_status NoMemory o = inl (inl refl)
-    by_status ModuleUnavailable o = inl (inr (refl, o))
-    by_status (Refused r p) o = absurd (not_refused text vs body r p b o)
-    by_status ReadFault (o, (us, j, c, t)) = inr (inl (refl, o, told us j ReadFault c (t trace e)))
-    by_status WriteFault (o, (us, j, c, t)) = inr (inr (inl (refl, o, told us j WriteFault c (t trace e))))
-    by_status Usage o = absurd o
-    by_status status.Ok (us, j, c, t) = inr (inr (inr (told us j status.Ok c (t trace e))))
-    by_status (BadInput k) (us, j, c, t) = inr (inr (inr (told us j (BadInput k) c (t trace e))))
-    by_status (RunFault k q z) (us, j, c, t) = inr (inr (inr (told us j (RunFault k q z) c (t trace e))))
-    by_status StepLimit (us, j, c, t) = inr (inr (inr (told us j StepLimit c (t trace e))))
-    by_status (BadWitness k) (us, j, c, t) = inr (inr (inr (told us j (BadWitness k) c (t trace e))))
+pub task_can_come : (s : Status) → IsOfTask s → CanCome s
+task_can_come (BadWitness k) o = o
+task_can_come status.Ok o = tt
+task_can_come Usage o = tt
+task_can_come ModuleUnavailable o = tt
+task_can_come (Refused q p) o = tt
+task_can_come (BadInput k) o = tt
+task_can_come (RunFault k q p) o = tt
+task_can_come ReadFault o = tt
+task_can_come WriteFault o = tt
+task_can_come StepLimit o = tt
+task_can_come NoMemory o = tt
+
+-- of a task's statuses want of memory alone comes before it
+pub task_before : (s : Status) → IsOfTask s → ComesBefore s → s ≡ NoMemory
+task_before NoMemory o b = refl
+task_before status.Ok o b = absurd b
+task_before (BadInput k) o b = absurd b
+task_before (RunFault k q p) o b = absurd b
+task_before ReadFault o b = absurd b
+task_before WriteFault o b = absurd b
+task_before StepLimit o b = absurd b
+task_before Usage o b = absurd o
+task_before ModuleUnavailable o b = absurd o
+task_before (Refused q p) o b = absurd o
+task_before (BadWitness k) o b = absurd b
+
+-- loose pairs are refused only where they are counted
+pub strict_wants : (t : Task) (strict wants : Bool) → strict ≡ is_strict_in t → wants ≡ wants_pairs_in t → strict ≡ true → wants ≡ true
+strict_wants (task.Check b) strict wants s w h = w
+strict_wants (task.Run n) strict wants s w h = absurd (cc)
+strict_wants task.Aif strict wants s w h = absurd (cc)
+strict_wants (task.Load n k) strict wants s w h = absurd (cc)
+
+-- what a build answers, by the task for which it was built
+pub built_for : (text : List ℕ) (t : Task) (strict wants : Bool) (r : Result Built BuildFault) → strict ≡ is_strict_in t → wants ≡ wants_pairs_in t → BuildsAs strict wants text r → BuildsAs (is_strict_in t) (wants_pairs_in t) text r
+built_for text t strict wants r s w h = subst (λ (b : Bool). BuildsAs (is_strict_in t) b text r) w (subst (λ (b : Bool). BuildsAs b wants text r) s h)
+
+-- ---- texts of the shelf
 
 -- the text that was fetched is the one that the shelf tells
 pub fetched_text : (texts : Option (List ℕ → Option (List ℕ))) (name text room : List ℕ) (n : ℕ) → length room ≡ 65537 → HasText texts name text → Fetched texts name n room → take n room ≡ text
@@ -146,15 +199,15 @@ unfetched_text (Some told) name text before after h (inr e) =
     cc
 
 -- a shelf without a fault, or with any
-pub any_shelf : (text : List ℕ) (greatest : ℕ) (left left' : Option (List ℕ)) (before after : List ℕ → Type 0) (shelf input out : Type 0) (s : Status) → OfText text greatest left left' before after ⊥ input out s → OfText text greatest left left' before after shelf input out s
-any_shelf text greatest left left' before after shelf input out NoMemory o = o
-any_shelf text greatest left left' before after shelf input out ModuleUnavailable o = absurd o
-any_shelf text greatest left left' before after shelf input out (Refused r p) o = o
-any_shelf text greatest left left' before after shelf input out ReadFault o = o
-any_shelf text greatest left left' before after shelf input out WriteFault o = o
-any_shelf text greatest left left' before after shelf input out Usage o = o
-any_shelf text greatest left left' before after shelf input out status.Ok o = o
-any_shelf text greatest left left' before after shelf input out (BadInput k) o = o
-any_shelf text greatest left left' before after shelf input out (RunFault k q z) o = o
-any_shelf text greatest left left' before after shelf input out StepLimit o = o
-any_shelf text greatest left left' before after shelf input out (BadWitness k) o = o
+pub any_shelf : (text : List ℕ) (t : Task) (left left' : Option (List ℕ)) (before after : List ℕ → Type 0) (shelf input out : Type 0) (s : Status) → OfText text t left left' before after ⊥ input out s → OfText text t left left' before after shelf input out s
+any_shelf text t left left' before after shelf input out NoMemory o = o
+any_shelf text t left left' before after shelf input out ModuleUnavailable o = absurd o
+any_shelf text t left left' before after shelf input out (Refused r p) o = o
+any_shelf text t left left' before after shelf input out ReadFault o = o
+any_shelf text t left left' before after shelf input out WriteFault o = o
+any_shelf text t left left' before after shelf input out Usage o = o
+any_shelf text t left left' before after shelf input out status.Ok o = o
+any_shelf text t left left' before after shelf input out (BadInput k) o = o
+any_shelf text t left left' before after shelf input out (RunFault k q z) o = o
+any_shelf text t left left' before after shelf input out StepLimit o = o
+any_shelf text t left left' before after shelf input out (BadWitness k) o = o

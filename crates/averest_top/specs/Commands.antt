@@ -1,21 +1,67 @@
--- Which commands are built so far.
-use Rattle.std.specs.Prelude.{ℕ, false, List, Option, Some, None, option_and_then}
+-- Which commands are built so far, and what they ask of which module.
+use Rattle.std.specs.Prelude.{ℕ, Bool, true, false, List, Option, Some, None, option_map, option_and_then}
 use Rattle.quartz_lexer.specs.Lexing.{origin}
 use Rattle.outside.specs.declared.status.Status.{Status}
 use Rattle.outside.specs.declared.status.Status.TheVariants.{Refused}
 use Rattle.outside.specs.declared.words.Command.{Command}
-use Rattle.outside.specs.declared.words.Command.TheVariants.{Run}
+use Rattle.outside.specs.declared.words.Command.TheVariants.{Run, Check, Aif, Plan, Load, Convert, Verify}
 use Rattle.outside.specs.Words.{meant}
+use Rattle.cell_run.specs.Told.{calls_of_run}
+use Rattle.averest_top.specs.declared.task.Task.{Task}
+use Rattle.averest_top.specs.declared.task.Task.TheVariants as task
 
--- the module and the most steps of a run that is built: one without a witness. How it is laid out changes nothing
-abbrev pub built_run : Command → Option (List ℕ × ℕ)
-built_run (Run name _ _ _ greatest false) = Some (name, greatest)
-built_run _ = None
+-- the module that a command names
+abbrev pub module_in : Command → List ℕ
+module_in (Run name _ _ _ _ _) = name
+module_in (Check name _) = name
+module_in (Aif name) = name
+module_in (Plan name _) = name
+module_in (Load name _ _ _ _ _) = name
+module_in (Convert name _) = name
+module_in (Verify name) = name
 
--- those of the run that the words are, where it is built
-abbrev pub run_meant : List (List ℕ) → Option (List ℕ × ℕ)
-run_meant words = option_and_then built_run (meant words)
+-- what a command asks of its module, where that is built: of runs, those without a witness. How a run is laid out changes nothing
+abbrev pub task_in : Command → Option Task
+task_in (Run _ _ _ _ greatest false) = Some (task.Run greatest)
+task_in (Check _ strict) = Some (task.Check strict)
+task_in (Aif _) = Some task.Aif
+task_in (Load _ seed steps _ _ _) = Some (task.Load seed steps)
+task_in _ = None
+
+-- the module, and what is asked of it
+abbrev pub asked_in : Command → Option (List ℕ × Task)
+asked_in c = option_map (λ t. (module_in c, t)) (task_in c)
+
+-- those that the words mean
+abbrev pub task_meant : List (List ℕ) → Option (List ℕ × Task)
+task_meant words = option_and_then asked_in (meant words)
 
 -- the status of a command that isn't built
 abbrev pub not_built : Status
 not_built = Refused 0 origin
+
+-- ---- what a task needs
+
+-- a task that reads the trace
+abbrev pub is_run : Task → Bool
+is_run (task.Run _) = true
+is_run _ = false
+
+-- one that counts loose pairs of writes, and one that refuses them
+abbrev pub wants_pairs_in : Task → Bool
+wants_pairs_in (task.Check _) = true
+wants_pairs_in _ = false
+
+abbrev pub is_strict_in : Task → Bool
+is_strict_in (task.Check strict) = strict
+is_strict_in _ = false
+
+-- how often a task asks the source: not at all, but for runs
+abbrev pub calls_of : Task → ℕ
+calls_of (task.Run greatest) = calls_of_run greatest
+calls_of _ = 0
+
+-- how often what the words mean asks it
+abbrev pub calls_asked : Option (List ℕ × Task) → ℕ
+calls_asked None = 0
+calls_asked (Some a) = calls_of a.1

@@ -1,4 +1,3 @@
 pub mod Commands
+pub mod Tasks
 pub mod Promise
-pub mod Reading
-pub mod Refusals

@@ -2,12 +2,16 @@
 use Rattle.std.specs.Prelude.{◌≡◌, ◌⊎◌, ℕ, List, take, Option, Some, None}
 use Rattle.outside.specs.declared.status.Status.{Status}
 use Rattle.outside.specs.declared.status.Status.TheVariants.{Usage, ModuleUnavailable, Refused, ReadFault, WriteFault, NoMemory, BadWitness}
-use Rattle.averest_top.specs.declared.reading.TextFault.{TextFault}
-use Rattle.averest_top.specs.declared.reading.TextFault.TheVariants as fault
 use Rattle.quartz_tree.specs.Kernel.{Kernel}
+use Rattle.quartz_tree.specs.Surfaces.{ModuleTree}
 use Rattle.quartz_expr.specs.Vars.{Vars}
-use Rattle.cell_run.specs.Told.{Told, ToldWhole, ToldBegun, Tells}
-use Rattle.averest_top.specs.Reading.{IsAccepted, Refuses}
+use Rattle.cell_run.specs.Told.{Told, ToldWhole, ToldBegun}
+use Rattle.quartz_build.specs.declared.fault.BuildFault.{BuildFault}
+use Rattle.quartz_build.specs.declared.fault.BuildFault.TheVariants as fault
+use Rattle.quartz_build.specs.Broken.{IsAccepted, Refuses}
+use Rattle.averest_top.specs.declared.task.Task.{Task}
+use Rattle.averest_top.specs.Commands.{is_strict_in}
+use Rattle.averest_top.specs.Tasks.{Does}
 
 -- a status comes exactly with its cause, but for want of memory
 abbrev pub ComesWith : (status expected : Status) → (cause : Type 0) → Type 0
@@ -53,22 +57,19 @@ abbrev pub CanCome : Status → Type 0
 CanCome (BadWitness _) = ⊥
 CanCome _ = Unit {0}
 
--- the text is accepted, and the run of its module over a trace told what the status says
-abbrev pub IsRun : (text : List ℕ) → (greatest : ℕ) → (left left' : Option (List ℕ)) → (before after : List ℕ → Type 0) → Status → Type 0
-IsRun text greatest left left' before after status =
-    (vs : Vars) × (body : Kernel) × IsAccepted text vs body × ((trace : List ℕ) → left ≡ Some trace → Tells vs body trace greatest before after left' status)
+-- the text is one module that breaks no rule, and the task is done with it
+abbrev pub IsDone : (text : List ℕ) → Task → (left left' : Option (List ℕ)) → (before after : List ℕ → Type 0) → (input_rose out_rose : Type 0) → Status → Type 0
+IsDone text t left left' before after input_rose out_rose status = (m : ModuleTree) × IsAccepted (is_strict_in t) text m × Does t m left left' before after input_rose out_rose status
 
 -- the status of a text that is refused
-abbrev pub refusal_status : TextFault → Status
+abbrev pub refusal_status : BuildFault → Status
 refusal_status (fault.Refused rule place) = Refused rule place
 refusal_status fault.NoMemory = NoMemory
 
--- what a status says of the run of a text: by which rule it is refused, or that it is accepted and what its run told
-abbrev pub OfText : (text : List ℕ) → (greatest : ℕ) → (left left' : Option (List ℕ)) → (before after : List ℕ → Type 0) → (shelf_rose input_rose out_rose : Type 0) → Status → Type 0
-OfText text greatest left left' before after shelf_rose input_rose out_rose NoMemory = Unit {0}
-OfText text greatest left left' before after shelf_rose input_rose out_rose ModuleUnavailable = shelf_rose
-OfText text greatest left left' before after shelf_rose input_rose out_rose (Refused rule place) = Refuses text rule place
-OfText text greatest left left' before after shelf_rose input_rose out_rose ReadFault = input_rose × IsRun text greatest left left' before after ReadFault
-OfText text greatest left left' before after shelf_rose input_rose out_rose WriteFault = out_rose × IsRun text greatest left left' before after WriteFault
-OfText text greatest left left' before after shelf_rose input_rose out_rose Usage = ⊥
-OfText text greatest left left' before after shelf_rose input_rose out_rose status = IsRun text greatest left left' before after status
+-- what a status says of a task on a text: by which rule the text is refused, or that it is accepted and what was done
+abbrev pub OfText : (text : List ℕ) → Task → (left left' : Option (List ℕ)) → (before after : List ℕ → Type 0) → (shelf_rose input_rose out_rose : Type 0) → Status → Type 0
+OfText text t left left' before after shelf_rose input_rose out_rose NoMemory = Unit {0}
+OfText text t left left' before after shelf_rose input_rose out_rose ModuleUnavailable = shelf_rose
+OfText text t left left' before after shelf_rose input_rose out_rose (Refused rule place) = Refuses (is_strict_in t) text rule place
+OfText text t left left' before after shelf_rose input_rose out_rose Usage = ⊥
+OfText text t left left' before after shelf_rose input_rose out_rose status = IsDone text t left left' before after input_rose out_rose status

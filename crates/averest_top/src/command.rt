@@ -1,138 +1,30 @@
-ghost use Rattle.std.specs.Prelude.{◌≡◌, ◌≢◌, ◌≤◌, ◌⊎◌, List, ℕ, Some, None, IfOk, length};
+ghost use Rattle.std.specs.Prelude.{◌≡◌, ◌≢◌, ◌≤◌, ◌⊎◌, Bool, false, List, ℕ, Some, None};
 ghost use Rattle.quartz_tree.specs.declared.place.Place.{Place};
+ghost use Rattle.quartz_tree.specs.Surfaces.{ModuleTree};
+ghost use Rattle.quartz_names.specs.Resolving.{resolved_body, resolved_vars};
 ghost use Rattle.outside.specs.Bytes.{Rose, Gains, Unfetched};
 ghost use Rattle.outside.specs.Words.{meant};
 ghost use Rattle.outside.specs.Report.{report_line};
 ghost use Rattle.outside.specs.declared.words.Command.{Command as Order};
-ghost use Rattle.averest_top.specs.Commands.{built_run, run_meant, not_built};
 ghost use Rattle.trace_io.specs.Held.{CalledAtMost};
-ghost use Rattle.cell_run.specs.Told.{calls_of_run};
-ghost use Rattle.quartz_tree.specs.Kernel.{Kernel};
-ghost use Rattle.quartz_expr.specs.Vars.{Vars};
-ghost use Rattle.averest_top.specs.Reading.{IsAccepted, Refuses};
-ghost use Rattle.averest_top.specs.Promise.{ComesWith, ComesBefore, HasText, LacksText, IsExcused, CanCome, Outcome, OfText, refusal_status};
+ghost use Rattle.load_run.specs.Load.{Loaded};
+ghost use Rattle.quartz_build.specs.Broken.{IsAccepted, Refuses};
+ghost use Rattle.averest_top.specs.declared.task.Task.{Task as Demand};
+ghost use Rattle.averest_top.specs.declared.task.Task.TheVariants.{Run as run_task, Check as check_task, Aif as aif_task, Load as load_task};
+ghost use Rattle.averest_top.specs.Commands.{asked_in, calls_asked, is_run, is_strict_in, not_built, task_in, task_meant};
+ghost use Rattle.averest_top.specs.Tasks.{SaysSize, WritesCells};
+ghost use Rattle.averest_top.specs.Promise.{CanCome, ComesBefore, ComesWith, HasText, IsExcused, LacksText, OfText, Outcome};
 
-use crate::reading::{NOT_BUILT, TextFault, read_text};
-use cell_run::run_cells;
+use crate::fetching::{do_module, status_of_fault};
+use crate::task::{module_of, task_of};
 use outside::{Command, Gate, Shelf, Sink, Source, Status, WordsFault, put_report, read_words};
-use quartz_tree::{Name, NoMemory};
+use quartz_build::NOT_BUILT;
+use quartz_tree::Name;
 use std::alloc::Global;
 use std::thread::Threads;
 
-// A text has at most one byte less.
-const TEXT_ROOM: usize = 65537;
-
-// The status of a text that is refused.
-fn status_of_fault(fault: TextFault) -> Status
-    ensures { result ≡ refusal_status fault }
-{
-    match fault {
-        TextFault::Refused { rule, place } => Status::Refused { rule, place },
-        TextFault::NoMemory => Status::NoMemory,
-    }
-}
-
-// Runs a text on a trace, in at most so many steps.
-fn run_text<S: Source, O: Sink>(
-    alloc: Global,
-    text: &[u8],
-    most_steps: u32,
-    input: &mut S,
-    out: &mut O,
-) -> Status
-    ensures input_counts { S.faults input.old ≤ S.faults input.new }
-    ensures out_counts { O.faults out.old ≤ O.faults out.new }
-    ensures asked { CalledAtMost (calls_of_run most_steps) (S.calls input.old) (S.calls input.new) }
-    ensures read_fault { result ≡ Status.ReadFault → Rose (S.faults input.old) (S.faults input.new) }
-    ensures write_fault { result ≡ Status.WriteFault → Rose (O.faults out.old) (O.faults out.new) }
-    ensures possible { CanCome result }
-    ensures no_usage { result ≢ Status.Usage }
-    ensures available { result ≢ Status.ModuleUnavailable }
-    ensures untouched { ComesBefore result → (input.new ≡ input.old) × (out.new ≡ out.old) }
-    ensures of_text { OfText text.now most_steps (S.left input.old) (S.left input.new) (O.stands out.old) (O.stands out.new) ⊥ (Rose (S.faults input.old) (S.faults input.new)) (Rose (O.faults out.old) (O.faults out.new)) result }
-{
-    match read_text(alloc, text) {
-        Ok(machine) => {
-            match run_cells(alloc, &machine.aif, &machine.order, most_steps, input, out) {
-                Ok(status) => status,
-                Err(_) => Status::NoMemory,
-            }
-        }
-        Err(fault) => status_of_fault(fault),
-    }
-}
-
-// The room for a text, and for one byte more.
-fn text_room(alloc: Global) -> Result<Vec<u8>, NoMemory>
-    ensures { IfOk result (λ room. length room.items ≡ 65537) }
-{
-    Ok(vec![in alloc; 0; TEXT_ROOM]?)
-}
-
-// Runs the module of that name, whose text is fetched into the room.
-fn run_fetched<F: Shelf, S: Source, O: Sink>(
-    alloc: Global,
-    name: &Name,
-    most_steps: u32,
-    room: &mut [u8],
-    shelf: &mut F,
-    input: &mut S,
-    out: &mut O,
-) -> Status
-    requires { length room.old ≡ 65537 }
-    ensures shelf_counts { F.faults shelf.old ≤ F.faults shelf.new }
-    ensures input_counts { S.faults input.old ≤ S.faults input.new }
-    ensures out_counts { O.faults out.old ≤ O.faults out.new }
-    ensures asked { CalledAtMost (calls_of_run most_steps) (S.calls input.old) (S.calls input.new) }
-    ensures read_fault { result ≡ Status.ReadFault → Rose (S.faults input.old) (S.faults input.new) }
-    ensures write_fault { result ≡ Status.WriteFault → Rose (O.faults out.old) (O.faults out.new) }
-    ensures possible { CanCome result }
-    ensures no_usage { result ≢ Status.Usage }
-    ensures unavailable { result ≡ Status.ModuleUnavailable → Unfetched (F.texts shelf.old) name.now (F.faults shelf.old) (F.faults shelf.new) }
-    ensures absent { LacksText (F.texts shelf.old) name.now → result ≡ Status.ModuleUnavailable }
-    ensures untouched { ComesBefore result → (input.new ≡ input.old) × (out.new ≡ out.old) }
-    ensures of_text { (text : List ℕ) → HasText (F.texts shelf.old) name.now text →
-        OfText text most_steps (S.left input.old) (S.left input.new) (O.stands out.old) (O.stands out.new)
-        (Rose (F.faults shelf.old) (F.faults shelf.new)) (Rose (S.faults input.old) (S.faults input.new)) (Rose (O.faults out.old) (O.faults out.new)) result }
-{
-    match shelf.fetch(name.text(), room) {
-        Ok(count) => run_text(alloc, &room[..count], most_steps, input, out),
-        Err(_) => Status::ModuleUnavailable,
-    }
-}
-
-// Runs the module of that name.
-fn run_module<F: Shelf, S: Source, O: Sink>(
-    alloc: Global,
-    name: &Name,
-    most_steps: u32,
-    shelf: &mut F,
-    input: &mut S,
-    out: &mut O,
-) -> Status
-    ensures shelf_counts { F.faults shelf.old ≤ F.faults shelf.new }
-    ensures input_counts { S.faults input.old ≤ S.faults input.new }
-    ensures out_counts { O.faults out.old ≤ O.faults out.new }
-    ensures asked { CalledAtMost (calls_of_run most_steps) (S.calls input.old) (S.calls input.new) }
-    ensures read_fault { result ≡ Status.ReadFault → Rose (S.faults input.old) (S.faults input.new) }
-    ensures write_fault { result ≡ Status.WriteFault → Rose (O.faults out.old) (O.faults out.new) }
-    ensures possible { CanCome result }
-    ensures no_usage { result ≢ Status.Usage }
-    ensures unavailable { result ≡ Status.ModuleUnavailable → Unfetched (F.texts shelf.old) name.now (F.faults shelf.old) (F.faults shelf.new) }
-    ensures absent { LacksText (F.texts shelf.old) name.now → (result ≡ Status.ModuleUnavailable) ⊎ (result ≡ Status.NoMemory) }
-    ensures untouched { ComesBefore result → (input.new ≡ input.old) × (out.new ≡ out.old) }
-    ensures of_text { (text : List ℕ) → HasText (F.texts shelf.old) name.now text →
-        OfText text most_steps (S.left input.old) (S.left input.new) (O.stands out.old) (O.stands out.new)
-        (Rose (F.faults shelf.old) (F.faults shelf.new)) (Rose (S.faults input.old) (S.faults input.new)) (Rose (O.faults out.old) (O.faults out.new)) result }
-{
-    match text_room(alloc) {
-        Ok(mut room) => run_fetched(alloc, name, most_steps, &mut room, shelf, input, out),
-        Err(_) => Status::NoMemory,
-    }
-}
-
 // Does what a command asks for.
-fn run_command<F: Shelf, S: Source, O: Sink>(
+fn do_command<F: Shelf, S: Source, O: Sink>(
     alloc: Global,
     command: &Command,
     shelf: &mut F,
@@ -142,28 +34,24 @@ fn run_command<F: Shelf, S: Source, O: Sink>(
     ensures shelf_counts { F.faults shelf.old ≤ F.faults shelf.new }
     ensures input_counts { S.faults input.old ≤ S.faults input.new }
     ensures out_counts { O.faults out.old ≤ O.faults out.new }
-    ensures asked { CalledAtMost (calls_of_run 4294967295) (S.calls input.old) (S.calls input.new) }
     ensures read_fault { result ≡ Status.ReadFault → Rose (S.faults input.old) (S.faults input.new) }
     ensures write_fault { result ≡ Status.WriteFault → Rose (O.faults out.old) (O.faults out.new) }
     ensures possible { CanCome result }
     ensures no_usage { result ≢ Status.Usage }
-    ensures unbuilt { built_run command.now ≡ None → result ≡ not_built }
-    ensures unasked { built_run command.now ≡ None → shelf.new ≡ shelf.old }
-    ensures unavailable { (name : List ℕ) (most : ℕ) → built_run command.now ≡ Some (name, most) → result ≡ Status.ModuleUnavailable → Unfetched (F.texts shelf.old) name (F.faults shelf.old) (F.faults shelf.new) }
-    ensures absent { (name : List ℕ) (most : ℕ) → built_run command.now ≡ Some (name, most) → LacksText (F.texts shelf.old) name → (result ≡ Status.ModuleUnavailable) ⊎ (result ≡ Status.NoMemory) }
+    ensures unbuilt { task_in command.now ≡ None → result ≡ not_built }
+    ensures unasked { task_in command.now ≡ None → shelf.new ≡ shelf.old }
+    ensures asked { CalledAtMost (calls_asked (asked_in command.now)) (S.calls input.old) (S.calls input.new) }
+    ensures untaken { (name : List ℕ) (task : Demand) → asked_in command.now ≡ Some (name, task) → is_run task ≡ false → input.new ≡ input.old }
+    ensures unavailable { (name : List ℕ) (task : Demand) → asked_in command.now ≡ Some (name, task) → result ≡ Status.ModuleUnavailable → Unfetched (F.texts shelf.old) name (F.faults shelf.old) (F.faults shelf.new) }
+    ensures absent { (name : List ℕ) (task : Demand) → asked_in command.now ≡ Some (name, task) → LacksText (F.texts shelf.old) name → (result ≡ Status.ModuleUnavailable) ⊎ (result ≡ Status.NoMemory) }
     ensures untouched { ComesBefore result → (input.new ≡ input.old) × (out.new ≡ out.old) }
-    ensures of_text { (name text : List ℕ) (most : ℕ) → built_run command.now ≡ Some (name, most) → HasText (F.texts shelf.old) name text →
-        OfText text most (S.left input.old) (S.left input.new) (O.stands out.old) (O.stands out.new)
+    ensures of_text { (name text : List ℕ) (task : Demand) → asked_in command.now ≡ Some (name, task) → HasText (F.texts shelf.old) name text →
+        OfText text task (S.left input.old) (S.left input.new) (O.stands out.old) (O.stands out.new)
         (Rose (F.faults shelf.old) (F.faults shelf.new)) (Rose (S.faults input.old) (S.faults input.new)) (Rose (O.faults out.old) (O.faults out.new)) result }
 {
-    match command {
-        Command::Run {
-            module,
-            max_steps,
-            witness: false,
-            ..
-        } => run_module(alloc, module, *max_steps, shelf, input, out),
-        _ => status_of_fault(NOT_BUILT),
+    match task_of(command) {
+        Some(task) => do_module(alloc, module_of(command), task, shelf, input, out),
+        None => status_of_fault(NOT_BUILT),
     }
 }
 
@@ -178,29 +66,30 @@ fn obey<F: Shelf, S: Source, O: Sink>(
     ensures shelf_counts { F.faults shelf.old ≤ F.faults shelf.new }
     ensures input_counts { S.faults input.old ≤ S.faults input.new }
     ensures out_counts { O.faults out.old ≤ O.faults out.new }
-    ensures asked { CalledAtMost (calls_of_run 4294967295) (S.calls input.old) (S.calls input.new) }
     ensures read_fault { result ≡ Status.ReadFault → Rose (S.faults input.old) (S.faults input.new) }
     ensures write_fault { result ≡ Status.WriteFault → Rose (O.faults out.old) (O.faults out.new) }
     ensures possible { CanCome result }
     ensures usage { ComesWith result Status.Usage (meant words.now ≡ None) }
-    ensures unbuilt { (order : Order) → meant words.now ≡ Some order → built_run order ≡ None → (result ≡ not_built) ⊎ (result ≡ Status.NoMemory) }
-    ensures unasked { run_meant words.now ≡ None → shelf.new ≡ shelf.old }
-    ensures unavailable { (name : List ℕ) (most : ℕ) → run_meant words.now ≡ Some (name, most) → result ≡ Status.ModuleUnavailable → Unfetched (F.texts shelf.old) name (F.faults shelf.old) (F.faults shelf.new) }
-    ensures absent { (name : List ℕ) (most : ℕ) → run_meant words.now ≡ Some (name, most) → LacksText (F.texts shelf.old) name → (result ≡ Status.ModuleUnavailable) ⊎ (result ≡ Status.NoMemory) }
+    ensures unbuilt { (order : Order) → meant words.now ≡ Some order → task_in order ≡ None → (result ≡ not_built) ⊎ (result ≡ Status.NoMemory) }
+    ensures unasked { task_meant words.now ≡ None → shelf.new ≡ shelf.old }
+    ensures asked { CalledAtMost (calls_asked (task_meant words.now)) (S.calls input.old) (S.calls input.new) }
+    ensures untaken { (name : List ℕ) (task : Demand) → task_meant words.now ≡ Some (name, task) → is_run task ≡ false → input.new ≡ input.old }
+    ensures unavailable { (name : List ℕ) (task : Demand) → task_meant words.now ≡ Some (name, task) → result ≡ Status.ModuleUnavailable → Unfetched (F.texts shelf.old) name (F.faults shelf.old) (F.faults shelf.new) }
+    ensures absent { (name : List ℕ) (task : Demand) → task_meant words.now ≡ Some (name, task) → LacksText (F.texts shelf.old) name → (result ≡ Status.ModuleUnavailable) ⊎ (result ≡ Status.NoMemory) }
     ensures untouched { ComesBefore result → (input.new ≡ input.old) × (out.new ≡ out.old) }
-    ensures of_text { (name text : List ℕ) (most : ℕ) → run_meant words.now ≡ Some (name, most) → HasText (F.texts shelf.old) name text →
-        OfText text most (S.left input.old) (S.left input.new) (O.stands out.old) (O.stands out.new)
+    ensures of_text { (name text : List ℕ) (task : Demand) → task_meant words.now ≡ Some (name, task) → HasText (F.texts shelf.old) name text →
+        OfText text task (S.left input.old) (S.left input.new) (O.stands out.old) (O.stands out.new)
         (Rose (F.faults shelf.old) (F.faults shelf.new)) (Rose (S.faults input.old) (S.faults input.new)) (Rose (O.faults out.old) (O.faults out.new)) result }
 {
     match read_words(alloc, words) {
-        Ok(command) => run_command(alloc, &command, shelf, input, out),
+        Ok(command) => do_command(alloc, &command, shelf, input, out),
         Err(WordsFault::Usage) => Status::Usage,
         Err(WordsFault::NoMemory) => Status::NoMemory,
     }
 }
 
-/// Does what the words ask for: reads a module of the shelf and a trace of `input`, writes to `out`,
-/// and reports how it ended. A failing report changes no status.
+/// Does what the words ask for: builds a module of the shelf, runs it on a trace of `input`, or says of
+/// it what is asked, writes to `out`, and reports how it ended. A failing report changes no status.
 pub fn averest<
     R: Threads + Sync,
     F: Shelf,
@@ -221,39 +110,60 @@ pub fn averest<
     ensures shelf_counts { F.faults shelf.old ≤ F.faults shelf.new }
     ensures input_counts { S.faults input.old ≤ S.faults input.new }
     ensures out_counts { O.faults out.old ≤ O.faults out.new }
-    ensures asked { CalledAtMost (calls_of_run 4294967295) (S.calls input.old) (S.calls input.new) }
     ensures report_counts { E.faults report.old ≤ E.faults report.new }
 
     // The words are no command.
     ensures usage { ComesWith result Status.Usage (meant words.now ≡ None) }
 
-    // A command that isn't built yet is refused, and without a run to do the shelf is not asked.
-    ensures unbuilt { (order : Order) → meant words.now ≡ Some order → built_run order ≡ None → (result ≡ not_built) ⊎ (result ≡ Status.NoMemory) }
-    ensures unasked { run_meant words.now ≡ None → shelf.new ≡ shelf.old }
+    // A command that isn't built yet is refused, and without a module to ask for the shelf is not asked.
+    ensures unbuilt { (order : Order) → meant words.now ≡ Some order → task_in order ≡ None → (result ≡ not_built) ⊎ (result ≡ Status.NoMemory) }
+    ensures unasked { task_meant words.now ≡ None → shelf.new ≡ shelf.old }
+
+    // A run asks the source so often at most, and nothing else takes anything of it.
+    ensures asked { CalledAtMost (calls_asked (task_meant words.now)) (S.calls input.old) (S.calls input.new) }
+    ensures untaken { (name : List ℕ) (task : Demand) → task_meant words.now ≡ Some (name, task) → is_run task ≡ false → input.new ≡ input.old }
 
     // There is no such text, or the shelf failed.
-    ensures unavailable { (name : List ℕ) (most : ℕ) → run_meant words.now ≡ Some (name, most) → result ≡ Status.ModuleUnavailable → Unfetched (F.texts shelf.old) name (F.faults shelf.old) (F.faults shelf.new) }
-    ensures absent { (name : List ℕ) (most : ℕ) → run_meant words.now ≡ Some (name, most) → LacksText (F.texts shelf.old) name → (result ≡ Status.ModuleUnavailable) ⊎ (result ≡ Status.NoMemory) }
+    ensures unavailable { (name : List ℕ) (task : Demand) → task_meant words.now ≡ Some (name, task) → result ≡ Status.ModuleUnavailable → Unfetched (F.texts shelf.old) name (F.faults shelf.old) (F.faults shelf.new) }
+    ensures absent { (name : List ℕ) (task : Demand) → task_meant words.now ≡ Some (name, task) → LacksText (F.texts shelf.old) name → (result ≡ Status.ModuleUnavailable) ⊎ (result ≡ Status.NoMemory) }
 
-    // The text is refused exactly by its rule.
-    ensures refused { (name text : List ℕ) (most : ℕ) → run_meant words.now ≡ Some (name, most) → HasText (F.texts shelf.old) name text → (r : ℕ) (p : Place) →
-        (result ≡ Status.Refused r p → Refuses text r p)
-        × (Refuses text r p → (result ≡ Status.Refused r p) ⊎ IsExcused result (Rose (F.faults shelf.old) (F.faults shelf.new))) }
+    // The text is refused exactly by its rule, and with any later status it is accepted.
+    ensures refused { (name text : List ℕ) (task : Demand) → task_meant words.now ≡ Some (name, task) → HasText (F.texts shelf.old) name text → (r : ℕ) (p : Place) →
+        (result ≡ Status.Refused r p → Refuses (is_strict_in task) text r p)
+        × (Refuses (is_strict_in task) text r p → (result ≡ Status.Refused r p) ⊎ IsExcused result (Rose (F.faults shelf.old) (F.faults shelf.new))) }
+    ensures accepted { (name text : List ℕ) (task : Demand) → task_meant words.now ≡ Some (name, task) → HasText (F.texts shelf.old) name text →
+        ComesBefore result ⊎ ((m : ModuleTree) × IsAccepted (is_strict_in task) text m) }
 
-    // A text that is accepted tells its story over the trace: the lines of the macro steps of its module, and a fault exactly at
-    // the first step that has one. After a failed read the whole lines that were taken are done, and
-    // after a failed write the sink has the front of the story's lines.
-    ensures story { (name text : List ℕ) (most : ℕ) → run_meant words.now ≡ Some (name, most) → HasText (F.texts shelf.old) name text →
-        (vs : Vars) (body : Kernel) (trace : List ℕ) → IsAccepted text vs body → S.left input.old ≡ Some trace →
-        Outcome vs body trace most (O.stands out.old) (O.stands out.new) (S.left input.new)
+    // With `run` a text that is accepted tells its story over the trace: the lines of the macro steps of its module, and a fault
+    // exactly at the first step that has one. After a failed read the whole lines that were taken are done, and after a failed
+    // write the sink has the front of the story's lines.
+    ensures story { (name text : List ℕ) (most : ℕ) → task_meant words.now ≡ Some (name, run_task most) → HasText (F.texts shelf.old) name text →
+        (m : ModuleTree) (trace : List ℕ) → IsAccepted false text m → S.left input.old ≡ Some trace →
+        Outcome (resolved_vars m) (resolved_body m) trace most (O.stands out.old) (O.stands out.new) (S.left input.new)
         (Rose (F.faults shelf.old) (F.faults shelf.new)) (Rose (S.faults input.old) (S.faults input.new)) (Rose (O.faults out.old) (O.faults out.new)) result }
+
+    // With `check` it is said how many cells, registers and loose pairs of writes its module has.
+    ensures size { (name text : List ℕ) (strict : Bool) → task_meant words.now ≡ Some (name, check_task strict) → HasText (F.texts shelf.old) name text →
+        (m : ModuleTree) → IsAccepted strict text m →
+        IsExcused result (Rose (F.faults shelf.old) (F.faults shelf.new)) ⊎ SaysSize m (O.stands out.old) (O.stands out.new) (Rose (O.faults out.old) (O.faults out.new)) result }
+
+    // With `aif` the cells are written to which its module is compiled.
+    ensures cells { (name text : List ℕ) → task_meant words.now ≡ Some (name, aif_task) → HasText (F.texts shelf.old) name text →
+        (m : ModuleTree) → IsAccepted false text m →
+        IsExcused result (Rose (F.faults shelf.old) (F.faults shelf.new)) ⊎ WritesCells m (O.stands out.old) (O.stands out.new) (Rose (O.faults out.old) (O.faults out.new)) result }
+
+    // With `load` it tells its story over the generated trace, of which the summary is put.
+    ensures load { (name text : List ℕ) (seed steps : ℕ) → task_meant words.now ≡ Some (name, load_task seed steps) → HasText (F.texts shelf.old) name text →
+        (m : ModuleTree) → IsAccepted false text m →
+        IsExcused result (Rose (F.faults shelf.old) (F.faults shelf.new))
+        ⊎ Loaded (resolved_vars m) (resolved_body m) seed steps (O.stands out.old) (O.stands out.new) (Rose (O.faults out.old) (O.faults out.new)) result }
 
     // A failed read or write is counted, and there is no witness.
     ensures read_fault { result ≡ Status.ReadFault → Rose (S.faults input.old) (S.faults input.new) }
     ensures write_fault { result ≡ Status.WriteFault → Rose (O.faults out.old) (O.faults out.new) }
     ensures possible { CanCome result }
 
-    // Before a run nothing is taken and nothing put.
+    // Before a task is begun nothing is taken and nothing put.
     ensures untouched { ComesBefore result → (input.new ≡ input.old) × (out.new ≡ out.old) }
     ensures reported { ¬ (Rose (E.faults report.old) (E.faults report.new)) → Gains (E.stands report.old) (E.stands report.new) (report_line result) }
 {

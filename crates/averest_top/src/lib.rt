@@ -2,6 +2,8 @@
 #![tactic(auto)]
 
 mod command;
-mod reading;
+mod doing;
+mod fetching;
+mod task;
 
 pub use command::averest;

@@ -1,0 +1,15 @@
+use Rattle.std.proofs.Common.{inr}
+use Rattle.averest_top.proofs.TaskLemmas.{parts_execute, says_size, writes_cells}
+use Rattle.averest_top.proofs.doing.do_task.Goals as goal
+
+pub returns-in-Run-clause-done : goal.returns-in-Run-clause-done
+returns-in-Run-clause-done g c = rw c.in-Run.is (λ m p. c.run_built.ensures.done _ _ (parts_execute _ m c.args.built.now p))
+
+pub returns-in-Check-clause-done : goal.returns-in-Check-clause-done
+returns-in-Check-clause-done g c = rw c.in-Check.is (λ m p. inr (says_size m c.args.built.now _ _ _ c.check_built.result p c.check_built.ensures.written))
+
+pub returns-in-Aif-clause-done : goal.returns-in-Aif-clause-done
+returns-in-Aif-clause-done g c = rw c.in-Aif.is (λ m p. inr (writes_cells _ m c.args.built.now _ _ _ c.write_built.result p c.write_built.ensures.written))
+
+pub returns-in-Load-clause-done : goal.returns-in-Load-clause-done
+returns-in-Load-clause-done g c = rw c.in-Load.is (λ m p. c.load_built.ensures.done _ _ (parts_execute _ m c.args.built.now p))

@@ -1,6 +1,0 @@
-use Rattle.std.proofs.Common.{Err, ap}
-use Rattle.averest_top.proofs.ReadingLemmas.{tokens_refused}
-use Rattle.averest_top.proofs.reading.read_text.Goals as goal
-
-pub returns-in-Err : goal.returns-in-Err
-returns-in-Err c = rw c.from.ensures (tokens_refused c.args.text.now c.in-Err.fault (λ p e. c.in-Err.ensures.broken p (ap Err e)))
