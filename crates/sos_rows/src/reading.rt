@@ -18,7 +18,7 @@ pub(crate) struct Step {
     pub scopes: Vec<i64>,
 }
 
-fn numbers(alloc: Global, text: &str) -> Result<Vec<i64>, Fail> {
+pub(crate) fn numbers(alloc: Global, text: &str) -> Result<Vec<i64>, Fail> {
     let mut all = Vec::new(alloc);
     for word in text.split_whitespace() {
         all.push(word.parse::<i64>()?)?;

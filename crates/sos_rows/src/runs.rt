@@ -6,7 +6,11 @@ use sos_model::{Act, Reaction};
 use std::alloc::Global;
 use std::test::Fail;
 
-fn after_step(alloc: Global, before: &[Output], writes: &[Act]) -> Result<Vec<Output>, Fail> {
+pub(crate) fn after_step(
+    alloc: Global,
+    before: &[Output],
+    writes: &[Act],
+) -> Result<Vec<Output>, Fail> {
     let mut all = Vec::new(alloc);
     for output in before {
         all.push(after_writes(*output, writes))?;
@@ -15,7 +19,7 @@ fn after_step(alloc: Global, before: &[Output], writes: &[Act]) -> Result<Vec<Ou
 }
 
 // Whether the outputs have these values.
-fn agree(outputs: &[Output], given: &[i64]) -> bool {
+pub(crate) fn agree(outputs: &[Output], given: &[i64]) -> bool {
     if outputs.len() != given.len() {
         return false;
     }
