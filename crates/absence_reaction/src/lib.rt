@@ -9,6 +9,3 @@ mod law;
 pub use closing::close;
 pub use copy::{Closed, Shape, VarCopy};
 pub use law::{closing_is_resolving, closing_names_earlier_cells};
-
-#[cfg(test)]
-mod tests;

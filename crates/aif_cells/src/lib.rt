@@ -20,6 +20,3 @@ pub use reference::Ref;
 pub use text::write_text;
 pub use tree::{Tree, TreeOne, TreeTwo};
 pub use valuation::{value_of, worth_of};
-
-#[cfg(test)]
-mod tests;

@@ -14,6 +14,3 @@ mod turns;
 pub use fault::OrderFault;
 pub use named::are_named;
 pub use ordered::order;
-
-#[cfg(test)]
-mod tests;

@@ -1,3 +1,2 @@
 pub mod LiteralLemmas
-pub mod TestLemmas
 pub mod TreeLemmas

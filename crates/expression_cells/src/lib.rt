@@ -13,6 +13,3 @@ pub use reading::reference_in;
 pub use testing::push_tests;
 pub use trees::tree_of;
 pub use writing::{fitted_tree, push_element_tests, push_range_tests, push_target_tests};
-
-#[cfg(test)]
-mod tests;

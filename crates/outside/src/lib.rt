@@ -12,10 +12,6 @@ mod shelf;
 mod sink;
 mod source;
 mod status;
-#[cfg(test)]
-mod tests;
-#[cfg(test)]
-mod word_rows;
 mod words;
 
 pub use adapters::{DirShelf, StdSink, StdSource};

@@ -23,7 +23,7 @@ use Rattle.quartz_types.specs.declared.typed.Typed.{Typed}
 use Rattle.quartz_types.specs.Rules.{first_break, with_rule}
 use Rattle.quartz_build.specs.declared.fault.BuildFault.{BuildFault}
 use Rattle.quartz_build.specs.declared.fault.BuildFault.TheVariants as fault
-use Rattle.quartz_build.specs.Broken.{BreaksEarly, by_tokens, by_grammar, by_rule, IsTextOf, first_broken, refusal_of, unbuilt}
+use Rattle.quartz_build.specs.Broken.{BreaksEarly, by_tokens, by_grammar, by_rule, IsTextOf, typing_refusal, refusal_of, unbuilt}
 use Rattle.quartz_build.specs.Parts.{CheckedAs, FrontAs, IsTypedOf, JudgedAs}
 use Rattle.quartz_build.specs.Refusals.{lex_refusal, names_refusal, parse_refusal, types_refusal}
 
@@ -42,11 +42,11 @@ types_refused resolved (typing.Rule r p) h = h r p refl
 types_refused resolved typing.NoMemory h = tt
 
 -- a module without calls
-plain : (m : ModuleTree) → has_call m.body ≡ false → first_broken m ≡ with_rule 3 (least_place (module_name_breaks m)) (first_break (resolved_vars m) (resolved_body m))
+plain : (m : ModuleTree) → has_call m.body ≡ false → typing_refusal m ≡ with_rule 3 (least_place (module_name_breaks m)) (first_break (resolved_vars m) (resolved_body m))
 plain m c = ap (λ b. if b then unbuilt else with_rule 3 (least_place (module_name_breaks m)) (first_break (resolved_vars m) (resolved_body m))) c
 
 -- a module that breaks no rule of names
-named : (m : ModuleTree) → has_call m.body ≡ false → least_place (module_name_breaks m) ≡ None → first_broken m ≡ first_break (resolved_vars m) (resolved_body m)
+named : (m : ModuleTree) → has_call m.body ≡ false → least_place (module_name_breaks m) ≡ None → typing_refusal m ≡ first_break (resolved_vars m) (resolved_body m)
 named m c n = plain m c ∙ ap (λ o. with_rule 3 o (first_break (resolved_vars m) (resolved_body m))) n
 
 pub with_calls : (m : ModuleTree) → has_call m.body ≡ true → refusal_of (m ∷ []) ≡ Some (0, origin)
@@ -61,7 +61,7 @@ pub checked_module : (m : ModuleTree) (resolved : Resolved) (r : Result Typed Bu
     → resolved.name ≡ m.name → resolved.vars ≡ resolved_vars m → kernel resolved.body ≡ resolved_body m → CheckedAs resolved r → JudgedAs (m ∷ []) r
 checked_module m resolved r c n i v b h = judged r h
   where
-    unbroken : first_break resolved.vars (kernel resolved.body) ≡ first_broken m
+    unbroken : first_break resolved.vars (kernel resolved.body) ≡ typing_refusal m
     unbroken = ap (λ (vs : Vars). first_break vs (kernel resolved.body)) v ∙ (ap (λ (k : Kernel). first_break (resolved_vars m) k) b ∙ sym (named m c n))
 
     judged : (r : Result Typed BuildFault) → CheckedAs resolved r → JudgedAs (m ∷ []) r

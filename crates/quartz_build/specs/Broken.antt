@@ -27,14 +27,14 @@ unbuilt = Some (0, origin)
 
 -- the first of the rules S3 to S7 that a module breaks, and its least place. With a call no rule is asked, since calls are not linked
 -- yet
-abbrev pub first_broken : ModuleTree → Option (ℕ × Place)
-first_broken m =
+abbrev pub typing_refusal : ModuleTree → Option (ℕ × Place)
+typing_refusal m =
     if has_call m.body then unbuilt
     else with_rule 3 (least_place (module_name_breaks m)) (first_break (resolved_vars m) (resolved_body m))
 
 -- the same of a text's modules, of which there has to be one
 abbrev pub refusal_of : List ModuleTree → Option (ℕ × Place)
-refusal_of (m ∷ []) = first_broken m
+refusal_of (m ∷ []) = typing_refusal m
 refusal_of _ = unbuilt
 
 -- the text is refused by its front: S1 where it breaks into no tokens, S2 where these derive no modules, and else the first of the
@@ -47,7 +47,7 @@ pub data BreaksEarly : List ℕ → (rule : ℕ) → Place → Type 0 where
 -- the text is this one module, which breaks none of the rules S1 to S7
 pub record IsWellTyped (text : List ℕ) (source : ModuleTree) : Type 0 where
   pub read : IsTextOf text (source ∷ [])
-  pub unbroken : first_broken source ≡ None
+  pub unbroken : typing_refusal source ≡ None
 
 -- ---- the cells
 

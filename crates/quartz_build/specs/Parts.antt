@@ -19,7 +19,7 @@ use Rattle.write_conflicts.specs.Pairs.{ArePairsOf}
 use Rattle.quartz_build.specs.declared.fault.BuildFault.{BuildFault}
 use Rattle.quartz_build.specs.declared.fault.BuildFault.TheVariants.{Refused, NoMemory}
 use Rattle.quartz_build.specs.declared.building.Built.{Built}
-use Rattle.quartz_build.specs.Broken.{BreaksEarly, BreaksLate, HasGoodCells, IsAccepted, IsWellTyped, Refuses, compiled_of, refusal_of, first_broken, term_in}
+use Rattle.quartz_build.specs.Broken.{BreaksEarly, BreaksLate, HasGoodCells, IsAccepted, IsWellTyped, Refuses, compiled_of, refusal_of, typing_refusal, term_in}
 
 -- the typed module is that of the tree: its name, its variables and its body
 pub record IsTypedOf (m : ModuleTree) (t : Typed) : Type 0 where
@@ -63,7 +63,7 @@ BuildsAs is_strict wants_pairs text (Err NoMemory) = Unit {0}
 
 -- what judging modules answers
 abbrev pub JudgedAs : List ModuleTree → Result Typed BuildFault → Type 0
-JudgedAs modules (Ok typed) = (m : ModuleTree) × (modules ≡ m ∷ []) × (first_broken m ≡ None) × IsTypedOf m typed
+JudgedAs modules (Ok typed) = (m : ModuleTree) × (modules ≡ m ∷ []) × (typing_refusal m ≡ None) × IsTypedOf m typed
 JudgedAs modules (Err (Refused rule place)) = refusal_of modules ≡ Some (rule, place)
 JudgedAs modules (Err NoMemory) = Unit {0}
 

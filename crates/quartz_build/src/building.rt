@@ -93,8 +93,9 @@ fn build_strictly(
     }
 }
 
-/// Builds the only module of a text, or answers the first rule that it breaks. With `is_strict` a loose pair of
-/// writes breaks S10.
+/// Builds the only module of a text, or answers the first of the rules S1 to S9 that it breaks. With `is_strict` a
+/// loose pair of writes breaks S10. Behind S1 and S2 a text of several modules or with a call is refused by rule 0,
+/// since calls are not linked yet.
 pub fn build(
     alloc: Global,
     text: &[u8],

@@ -63,7 +63,8 @@ fn judge_tokens(alloc: Global, tokens: &Tokens, text: &[u8]) -> Result<Typed, Bu
     }
 }
 
-/// Reads a text as a typed module, or answers the first of the rules S1 to S7 that it breaks.
+/// Reads a text as a typed module, or answers the first of the rules S1 to S7 that it breaks. Behind S1 and S2 a
+/// text of several modules or with a call is refused by rule 0, since calls are not linked yet.
 pub fn front(alloc: Global, text: &[u8]) -> Result<Typed, BuildFault>
     ensures { FrontAs text.now result }
 {

@@ -4,6 +4,5 @@ pub mod OperatorLemmas
 pub mod TypingLemmas
 pub mod WithinLemmas
 pub mod LawLemmas
-pub mod TestLemmas
 pub mod StepExamples
 pub mod CoherentLemmas

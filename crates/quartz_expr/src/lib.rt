@@ -21,6 +21,3 @@ pub use laws::{
     not_instant_stays, reaction_is_one, runs_look_back, sequence_acts_in_order,
     statements_are_fresh, strong_preemption_does_nothing, tick_of_fresh_term,
 };
-
-#[cfg(test)]
-mod tests;

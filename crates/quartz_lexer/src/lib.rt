@@ -4,8 +4,6 @@
 mod fault;
 mod piece;
 mod scan;
-#[cfg(test)]
-mod tests;
 mod token;
 
 pub use fault::LexFault;

@@ -23,6 +23,3 @@ pub use law::{marks_are_targets, resolved_is_numbered};
 pub use place::{lesser_place, place_if};
 pub use resolving::{Resolved, resolve};
 pub use scope::unscoped;
-
-#[cfg(test)]
-mod tests;

@@ -15,8 +15,6 @@ mod rated;
 mod reader;
 mod statement;
 mod symbol;
-#[cfg(test)]
-mod tests;
 mod typed;
 
 pub use declaring::Typing;

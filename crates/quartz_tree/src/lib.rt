@@ -22,6 +22,3 @@ pub use name::Name;
 pub use place::Place;
 pub use stmt::Stmt;
 pub use surface::{Arg, Module, Surface, Target};
-
-#[cfg(test)]
-mod tests;

@@ -31,7 +31,7 @@ fn least_module_bound_break(vars: &[Var], body: &Stmt) -> Option<Place>
 }
 
 /// The first of the rules S4 to S7 that is broken, at the least of its places.
-pub(crate) fn first_break(vars: &[Var], body: &Stmt) -> Option<(u8, Place)>
+pub fn first_break(vars: &[Var], body: &Stmt) -> Option<(u8, Place)>
     ensures { result ≡ first_break vars.now (kernel body.now) }
 {
     if let Some(place) = least_module_kind_break(vars, body) {

@@ -15,7 +15,7 @@ mod typed;
 
 pub use bound::least_declared_break;
 pub use bounded::{interval, least_expr_bound_break};
-pub use checking::check;
+pub use checking::{check, first_break};
 pub use fault::TypeFault;
 pub use input::least_input_write;
 pub use kind::{least_condition_break, least_constant_break, least_expr_break, least_kind_break};
@@ -23,6 +23,3 @@ pub use law::typed_loops_take_a_step;
 pub use looping::{least_instant_loop, may_be_instant};
 pub use stmt_bound::least_bound_break;
 pub use typed::Typed;
-
-#[cfg(test)]
-mod tests;

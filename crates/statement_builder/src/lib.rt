@@ -15,6 +15,3 @@ mod testing;
 
 pub use builder::{Builder, DepthCopy, EnteredCopy, Entry, OpenVar};
 pub use counting::{Counts, Numbers, count};
-
-#[cfg(test)]
-mod tests;

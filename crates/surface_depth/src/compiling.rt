@@ -52,22 +52,27 @@ fn build_statement(
 }
 
 // Builds the outputs' copies and the body.
-fn build(alloc: Global, module: &Resolved, outputs: &[u32], sizes: Sizes) -> Result<Body, NoMemory>
-    requires types { AreSound module.now.vars }
-    requires sound { IsSound module.now.vars (term_of (kernel module.now.body)) }
-    requires outputs { outputs.now ≡ outputs_of module.now.vars }
-    requires sizes { HasSizes module.now.vars (term_of (kernel module.now.body)) sizes }
+fn build(
+    alloc: Global,
+    resolved: &Resolved,
+    outputs: &[u32],
+    sizes: Sizes,
+) -> Result<Body, NoMemory>
+    requires types { AreSound resolved.now.vars }
+    requires sound { IsSound resolved.now.vars (term_of (kernel resolved.now.body)) }
+    requires outputs { outputs.now ≡ outputs_of resolved.now.vars }
+    requires sizes { HasSizes resolved.now.vars (term_of (kernel resolved.now.body)) sizes }
     requires inputs { sizes.inputs < 65537 }
-    ensures over { IfOk result (λ b. IsOver module.now.vars b.builder) }
-    ensures body { IfOk result (λ b. IsBody module.now.vars (term_of (kernel module.now.body)) b.builder b.outputs.items) }
+    ensures over { IfOk result (λ b. IsOver resolved.now.vars b.builder) }
+    ensures body { IfOk result (λ b. IsBody resolved.now.vars (term_of (kernel resolved.now.body)) b.builder b.outputs.items) }
 {
-    let vars = module.vars.as_slice();
-    let mut builder = fresh_builder(alloc, &module.name, vars)?;
+    let vars = resolved.vars.as_slice();
+    let mut builder = fresh_builder(alloc, &resolved.name, vars)?;
     let outputs = begin_outputs(alloc, vars, &mut builder, outputs)?;
     let label = 1;
     let register = plus(plus(1, sizes.labels)?, sizes.outputs)?;
     let first = Numbers { label, register };
-    build_statement(alloc, vars, &mut builder, &module.body, first)?;
+    build_statement(alloc, vars, &mut builder, &resolved.body, first)?;
     Ok(Body { builder, outputs })
 }
 
@@ -93,15 +98,15 @@ pub fn compile(alloc: Global, typed: &Typed) -> Result<Aif, CompileFault>
     ensures fits { OnOk result (is_too_large typed.now.resolved.vars (term_of (kernel typed.now.resolved.body)) ≡ false) }
     ensures too_large { IsErrOf result CompileFault.S8 → is_too_large typed.now.resolved.vars (term_of (kernel typed.now.resolved.body)) ≡ true }
 {
-    let module = typed.get();
-    let vars = module.vars.as_slice();
+    let resolved = typed.get();
+    let vars = resolved.vars.as_slice();
     let outputs = outputs_of(alloc, vars)?;
-    let sizes = measure(vars, &module.body, outputs.as_slice())?;
+    let sizes = measure(vars, &resolved.body, outputs.as_slice())?;
     if sizes.registers() as u128 + sizes.inputs as u128 > GREATEST_SIZE {
         return Err(CompileFault::S8);
     }
-    let body = build(alloc, module, outputs.as_slice(), sizes)?;
-    let aif = finish(alloc, module, body, outputs.as_slice(), sizes)?;
+    let body = build(alloc, resolved, outputs.as_slice(), sizes)?;
+    let aif = finish(alloc, resolved, body, outputs.as_slice(), sizes)?;
     if is_too_large(&aif) {
         return Err(CompileFault::S8);
     }

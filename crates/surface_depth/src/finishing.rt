@@ -42,23 +42,23 @@ pub(crate) struct Labelled {
 // Closes the outputs, and tells the registers of labels what they take.
 fn close_and_label(
     alloc: Global,
-    module: &Resolved,
+    resolved: &Resolved,
     body: &mut Body,
     outputs: &[u32],
     sizes: Sizes,
 ) -> Result<Labelled, NoMemory>
-    requires types { have_sound_types module.now.vars ≡ true }
-    requires over { IsOver module.now.vars body.old.builder }
-    requires body { IsBody module.now.vars (term_of (kernel module.now.body)) body.old.builder body.old.outputs.items }
-    requires outputs { outputs.now ≡ outputs_of module.now.vars }
-    requires sizes { HasSizes module.now.vars (term_of (kernel module.now.body)) sizes }
+    requires types { have_sound_types resolved.now.vars ≡ true }
+    requires over { IsOver resolved.now.vars body.old.builder }
+    requires body { IsBody resolved.now.vars (term_of (kernel resolved.now.body)) body.old.builder body.old.outputs.items }
+    requires outputs { outputs.now ≡ outputs_of resolved.now.vars }
+    requires sizes { HasSizes resolved.now.vars (term_of (kernel resolved.now.body)) sizes }
     requires few { 1 + (sizes.labels + (sizes.outputs + sizes.scopes)) < 2 ^ 32 }
-    ensures over { OnOk result (IsOver module.now.vars body.new.builder) }
-    ensures labelled { IfOk result (λ l. IsLabelled module.now.vars (term_of (kernel module.now.body)) body.new.builder l.closed.items l.registers) }
+    ensures over { OnOk result (IsOver resolved.now.vars body.new.builder) }
+    ensures labelled { IfOk result (λ l. IsLabelled resolved.now.vars (term_of (kernel resolved.now.body)) body.new.builder l.closed.items l.registers) }
     ensures outputs { OnOk result (body.new.outputs ≡ body.old.outputs) }
     ensures count { IfOk result (λ l. length l.registers ≡ 1 + (sizes.labels + (sizes.outputs + sizes.scopes))) }
 {
-    let vars = module.vars.as_slice();
+    let vars = resolved.vars.as_slice();
     let first = plus(1, sizes.labels)?;
     let closed = close_outputs(
         alloc,
@@ -84,16 +84,16 @@ struct Assembled {
 #[tactic(auto, using(crate::proofs::WholeLemmas::assembled_is))]
 fn put_together(
     alloc: Global,
-    module: &Resolved,
+    resolved: &Resolved,
     body: Body,
     registers: Items<Register>,
     inputs: u32,
 ) -> Result<Assembled, NoMemory>
-    requires { IsOver module.now.vars body.builder }
-    ensures aif { IfOk result (λ a. IsAssembled module.now.vars (term_of (kernel module.now.body)) body.builder body.outputs.items registers a.aif) }
+    requires { IsOver resolved.now.vars body.builder }
+    ensures aif { IfOk result (λ a. IsAssembled resolved.now.vars (term_of (kernel resolved.now.body)) body.builder body.outputs.items registers a.aif) }
     ensures entered { IfOk result (λ a. a.copies.entered.items ≡ entered_by 0 (length registers) (map entered_copy body.builder.entered)) }
     ensures depths { IfOk result (λ a. map (map depth_copy) a.copies.depths.items ≡ depths_by 0 (length registers) (map depth_copy body.builder.depths)) }
-    ensures name { IfOk result (λ a. a.aif.name ≡ module.now.name) }
+    ensures name { IfOk result (λ a. a.aif.name ≡ resolved.now.name) }
     ensures inputs { IfOk result (λ a. a.aif.inputs ≡ inputs) }
 {
     let Body { builder, outputs } = body;
@@ -104,8 +104,8 @@ fn put_together(
         registers.len(),
     )?;
     let cells = output_cells(alloc, outputs.as_slice())?;
-    let paths = label_paths(alloc, &module.body)?;
-    let name = Name::new(alloc, module.name.text())?;
+    let paths = label_paths(alloc, &resolved.body)?;
+    let name = Name::new(alloc, resolved.name.text())?;
     let aif = assemble(builder, name, inputs, cells, paths, registers);
     Ok(Assembled { aif, copies })
 }
@@ -113,28 +113,30 @@ fn put_together(
 /// Finishes a module whose body is built: closes the outputs, and tells the registers what they take.
 pub(crate) fn finish(
     alloc: Global,
-    module: &Resolved,
+    resolved: &Resolved,
     body: Body,
     outputs: &[u32],
     sizes: Sizes,
 ) -> Result<Aif, NoMemory>
-    requires types { have_sound_types module.now.vars ≡ true }
-    requires over { IsOver module.now.vars body.builder }
-    requires body { IsBody module.now.vars (term_of (kernel module.now.body)) body.builder body.outputs.items }
-    requires outputs { outputs.now ≡ outputs_of module.now.vars }
-    requires sizes { HasSizes module.now.vars (term_of (kernel module.now.body)) sizes }
+    requires types { have_sound_types resolved.now.vars ≡ true }
+    requires over { IsOver resolved.now.vars body.builder }
+    requires body { IsBody resolved.now.vars (term_of (kernel resolved.now.body)) body.builder body.outputs.items }
+    requires outputs { outputs.now ≡ outputs_of resolved.now.vars }
+    requires sizes { HasSizes resolved.now.vars (term_of (kernel resolved.now.body)) sizes }
     requires few { 1 + (sizes.labels + (sizes.outputs + sizes.scopes)) < 2 ^ 32 }
-    ensures name { IfOk result (λ a. a.name ≡ module.now.name) }
-    ensures vars { IfOk result (λ a. a.vars ≡ module.now.vars) }
-    ensures inputs { IfOk result (λ a. a.inputs ≡ input_count module.now.vars) }
-    ensures compiled { IfOk result (λ a. compiled_in a ≡ compiled module.now.vars (term_of (kernel module.now.body))) }
+    ensures name { IfOk result (λ a. a.name ≡ resolved.now.name) }
+    ensures vars { IfOk result (λ a. a.vars ≡ resolved.now.vars) }
+    ensures inputs { IfOk result (λ a. a.inputs ≡ input_count resolved.now.vars) }
+    ensures compiled { IfOk result (λ a. compiled_in a ≡ compiled resolved.now.vars (term_of (kernel resolved.now.body))) }
 {
     let mut body = body;
-    let Labelled { closed, registers } = close_and_label(alloc, module, &mut body, outputs, sizes)?;
+    let Labelled { closed, registers } = close_and_label(
+        alloc, resolved, &mut body, outputs, sizes,
+    )?;
     let first = plus(plus(1, sizes.labels)?, sizes.outputs)?;
-    let Assembled { aif, copies } = put_together(alloc, module, body, registers, sizes.inputs)?;
+    let Assembled { aif, copies } = put_together(alloc, resolved, body, registers, sizes.inputs)?;
     let mut aif = aif;
     take_outputs(alloc, &mut aif, closed.as_slice())?;
-    take_scopes(alloc, &mut aif, &copies, &module.body, first)?;
+    take_scopes(alloc, &mut aif, &copies, &resolved.body, first)?;
     Ok(aif)
 }

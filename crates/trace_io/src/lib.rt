@@ -25,6 +25,3 @@ pub use step::ReadStep;
 pub use types::{count_of, same_flow, types_of};
 pub use value::{is_in_range, push_value, read_value};
 pub use writer::TraceWriter;
-
-#[cfg(test)]
-mod tests;

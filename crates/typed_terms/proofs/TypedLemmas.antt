@@ -157,7 +157,7 @@ no_rule r ps later e = either (least_place ps) refl e
     either None f e = (no_place ps f, e)
     either (Some p) f e = absurd (cc)
 
-sound_module : (vs : Vars) (k : Kernel) → is_numbered vs k ≡ true → first_break vs k ≡ None → IsSoundModule vs (term_of k)
+pub sound_module : (vs : Vars) (k : Kernel) → is_numbered vs k ≡ true → first_break vs k ≡ None → IsSoundModule vs (term_of k)
 sound_module vs k numbered unbroken =
     let r4 = no_rule 4 (module_kind_breaks vs k) _ unbroken in
     let r5 = no_rule 5 (module_bound_breaks vs k) _ r4.1 in

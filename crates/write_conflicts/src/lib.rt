@@ -9,6 +9,3 @@ mod reach;
 mod table;
 
 pub use pairs::{Pairs, loose_pairs};
-
-#[cfg(test)]
-mod tests;

@@ -17,8 +17,8 @@ use Rattle.surface_depth.proofs.finishing.finish.Goals as goal
 
 pub returns-clause-compiled : goal.returns-clause-compiled
 returns-clause-compiled c =
-    let vs : Vars = c.args.module.now.vars in
-    let t : Term = term_of (kernel c.args.module.now.body) in
+    let vs : Vars = c.args.resolved.now.vars in
+    let t : Term = term_of (kernel c.args.resolved.now.body) in
     let b : Builder = c.close_and_label.new.body.builder in
     let os : List OutputCopy = c.close_and_label.new.body.outputs.items in
     let rs : List Register = c.in_ok-closed.field-0.registers in

@@ -1,5 +1,5 @@
-use crate::parsing::{parse, parse_text};
 use quartz_lexer::lex;
+use quartz_parser::{parse, parse_text};
 use quartz_tree::{Expr, Module, Name, Surface};
 use std::alloc::{AllocError, Global};
 use std::test::Fail;

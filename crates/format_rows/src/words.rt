@@ -1,4 +1,4 @@
-use crate::{Command, WordsFault, read_words};
+use outside::{Command, WordsFault, read_words};
 use quartz_tree::Name;
 use std::alloc::Global;
 use std::test::Fail;

@@ -2,7 +2,7 @@ ghost use Rattle.std.specs.Prelude.{◌≡◌, ◌+◌, ◌*◌, ◌<◌, ◌≤
 ghost use Rattle.aif_cells.specs.Aif.{input_count};
 ghost use Rattle.absence_reaction.specs.Closing.{AreBelow};
 
-use crate::{VarCopy, close};
+use absence_reaction::{VarCopy, close};
 use aif_cells::{Action, Aif, Cell, Ref, Tree, write_text};
 use outside::MemSink;
 use quartz_tree::{Base, Decl, Flow, Name, NoMemory, Place, Storage, Ty, Var};

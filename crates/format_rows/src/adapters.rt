@@ -1,4 +1,4 @@
-use crate::{DirShelf, Failed, Shelf, Sink, Source, StdSink, StdSource};
+use outside::{DirShelf, Failed, Shelf, Sink, Source, StdSink, StdSource};
 
 #[test]
 fn reads_a_reader_to_its_end(rt: HostRuntime) {

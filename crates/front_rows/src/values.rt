@@ -1,7 +1,7 @@
 ghost use Rattle.std.specs.Prelude.{◌≡◌, [], ◌∷◌, ◌≤ℤ◌, IfOk, negsuc, pos};
 ghost use Rattle.quartz_tree.specs.Tree.{named, tree, two};
 
-use crate::{Env, ExprKind, bad, eval, kind_of, lesser_of};
+use quartz_expr::{Env, ExprKind, bad, eval, kind_of, lesser_of};
 use quartz_tree::{
     Base, Binary, Decl, Expr, Fault, Flow, Kind, Name, NoMemory, Place, Storage, Ty, Unary, Var,
 };
@@ -69,7 +69,7 @@ fn scalars(alloc: Global, x: i64, y: i64) -> Result<Env, NoMemory>
 }
 
 // The value of `x / y`, and its least fault.
-#[tactic(auto, using(crate::proofs::TestLemmas::quotient_sound, crate::proofs::TestLemmas::quotient_typed, crate::proofs::TestLemmas::quotient_fits))]
+#[tactic(auto, using(crate::proofs::QuotientLemmas::quotient_sound, crate::proofs::QuotientLemmas::quotient_typed, crate::proofs::QuotientLemmas::quotient_fits))]
 fn judged(alloc: Global, x: i64, y: i64) -> Result<(i64, Option<Fault>), NoMemory>
     requires x_from { negsuc 7 ≤ℤ x }
     requires x_upto { x ≤ℤ pos 7 }

@@ -1,10 +1,10 @@
-use crate::{Pairs, loose_pairs};
 use aif_cells::{Action, Aif, Made, Order, Path, Ref};
 use quartz_tree::{Name, NoMemory, Place};
 use sqlite_items::Items;
 use std::alloc::Global;
 use std::process::Abort;
 use std::test::Fail;
+use write_conflicts::{Pairs, loose_pairs};
 
 // A write to variable 0 at a line. It writes copy 0 now, or copy 1 in the next step.
 fn write(guard: Ref, delayed: bool, line: u32) -> Action {
@@ -20,7 +20,7 @@ fn write(guard: Ref, delayed: bool, line: u32) -> Action {
 }
 
 // The loose pairs of a module without cells, whose copies 0 and 1 of variable 0 have a store or not.
-#[tactic(auto, using(crate::proofs::OrderLemmas::empty_order))]
+#[tactic(auto, using(write_conflicts::proofs::OrderLemmas::empty_order))]
 fn pairs_of(
     rt: &impl Abort,
     alloc: Global,

@@ -1,5 +1,5 @@
-use crate::{OrderFault, are_named, order};
 use aif_cells::{Aif, Cell, Order, Ref, Tree};
+use causality_check::{OrderFault, are_named, order};
 use quartz_tree::{Name, NoMemory, Place};
 use std::alloc::Global;
 use std::process::Abort;

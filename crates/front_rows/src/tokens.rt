@@ -1,5 +1,4 @@
-use crate::fault::LexFault;
-use crate::scan::lex;
+use quartz_lexer::{LexFault, lex};
 use std::alloc::Global;
 use std::test::Fail;
 

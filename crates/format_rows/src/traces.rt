@@ -2,16 +2,16 @@ ghost use Rattle.std.specs.Prelude.{◌≡◌, ◌≤◌, IfOk, vec_capacity};
 ghost use Rattle.quartz_expr.specs.Intervals.{is_sound_base, is_sound_type};
 ghost use Rattle.quartz_expr.specs.Typed.{AreSound};
 
-use crate::{
-    CountSink, Field, ReadStep, TraceGen, TraceReader, TraceWriter, is_in_range, push_value,
-    read_fields, read_value, text_of,
-};
 use outside::{MemSink, MemSource, Sink, Source};
 use quartz_tree::{Base, Decl, Flow, Name, NoMemory, Place, Storage, Ty, Var};
 use stage_rings::{Body, Packet};
 use std::alloc::{AllocError, Global};
 use std::process::Abort;
 use std::test::Fail;
+use trace_io::{
+    CountSink, Field, ReadStep, TraceGen, TraceReader, TraceWriter, is_in_range, push_value,
+    read_fields, read_value, text_of,
+};
 
 const NAT_10: Base = Base::Nat(10);
 

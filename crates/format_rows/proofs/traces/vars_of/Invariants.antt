@@ -1,6 +1,6 @@
 use Rattle.std.proofs.Common.{◌≡◌, ◌≤◌, true, length}
 use Rattle.quartz_expr.specs.Typed.{have_sound_types}
-use Rattle.trace_io.proofs.tests.vars_of.Given as goal
+use Rattle.format_rows.proofs.traces.vars_of.Given as goal
 
 abbrev pub invariant-loop-param : goal.invariant-loop-param
 invariant-loop-param l = record {

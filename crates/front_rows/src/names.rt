@@ -1,4 +1,4 @@
-use super::*;
+use quartz_names::{NamesFault, has_call, resolve, start_value};
 use quartz_tree::{
     Base, Decl, Expr, Flow, Init, Module, Name, NoMemory, Place, Start, Stmt, Storage, Surface,
     Target, Ty,

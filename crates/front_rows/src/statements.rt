@@ -1,6 +1,6 @@
 ghost use Rattle.std.specs.Prelude.{◌<◌};
 
-use super::*;
+use quartz_tree::{Expr, Name, NoMemory, Place, Surface, Target, Unary, expand};
 use std::alloc::Global;
 use std::process::Abort;
 use std::test::Fail;

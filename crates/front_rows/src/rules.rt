@@ -1,7 +1,9 @@
-use super::*;
-use crate::checking::first_break;
 use quartz_tree::{
     Base, Binary, Decl, Expr, Flow, Init, Name, NoMemory, Place, Start, Stmt, Storage, Ty, Var,
+};
+use quartz_types::{
+    first_break, interval, least_condition_break, least_constant_break, least_declared_break,
+    least_input_write, least_instant_loop, least_kind_break, may_be_instant,
 };
 use std::alloc::Global;
 use std::test::Fail;

@@ -1,8 +1,8 @@
 ghost use Rattle.std.specs.Prelude.{◌≡◌, ◌∷◌, [], IfOk, None, Some};
 ghost use Rattle.quartz_tree.specs.Tree.{choice as plain_choice, element, named as plain_named, tree, two};
 
-use crate::{Test, fitted_tree, push_range_tests, push_tests, tree_of};
 use aif_cells::{Ref, worth_of};
+use expression_cells::{Test, fitted_tree, push_range_tests, push_tests, tree_of};
 use quartz_tree::{Base, Binary, Decl, Expr, Flow, Kind, Name, NoMemory, Place, Storage, Ty, Var};
 use sqlite_items::Items;
 use statement_cells::Current;
@@ -106,7 +106,7 @@ fn copies(alloc: Global) -> Result<Vec<Current>, NoMemory> {
 }
 
 // `b ? x / y : t[x]` with these inputs, and the tests of it that hold, where `r0` is the guard
-#[tactic(auto, using(crate::proofs::TestLemmas::choice_typed, crate::proofs::TestLemmas::four_sound))]
+#[tactic(auto, using(crate::proofs::TypingLemmas::choice_typed, crate::proofs::TypingLemmas::four_sound))]
 fn judged(
     alloc: Global,
     inputs: [i64; 5],
@@ -162,7 +162,7 @@ fn choices(rt: HostRuntime) -> Result<(), Fail> {
 }
 
 // `y = x` from `int{8}` to `nat{4}`, where `r0` is the guard: what is written, and the tests that hold
-#[tactic(auto, using(crate::proofs::TestLemmas::named_typed))]
+#[tactic(auto, using(crate::proofs::TypingLemmas::named_typed))]
 fn written(alloc: Global, value: i64) -> Result<(i64, Vec<(Kind, Place)>), NoMemory> {
     let vars = [
         variable(alloc, Base::Int(8), None)?,

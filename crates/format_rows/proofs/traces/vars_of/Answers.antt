@@ -1,7 +1,7 @@
 use Rattle.std.proofs.Common.{rules, ap, ◌∙◌, sym}
 use Rattle.quartz_expr.specs.Intervals.{is_sound_type}
 use Rattle.trace_io.proofs.TypeLemmas.{sound_pushed}
-use Rattle.trace_io.proofs.tests.vars_of.Goals as goal
+use Rattle.format_rows.proofs.traces.vars_of.Goals as goal
 
 pub loop-param-preserved : goal.loop-param-preserved
 loop-param-preserved c = record {

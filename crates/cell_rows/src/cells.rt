@@ -1,7 +1,7 @@
 ghost use Rattle.std.specs.Prelude.{◌≡◌, IfOk};
 ghost use Rattle.aif_cells.specs.Aif.{input_count};
 
-use crate::{
+use aif_cells::{
     Action, Aif, Cell, Monitor, Ref, Register, Tree, TreeOne, TreeTwo, worth_of, write_text,
 };
 use outside::MemSink;

@@ -4,10 +4,10 @@ ghost use Rattle.quartz_expr.specs.Terms.{term_of};
 ghost use Rattle.statement_cells.specs.Sound.{IsSound};
 ghost use Rattle.statement_builder.specs.Built.{IsOver};
 
-use crate::{Builder, Entry, Numbers};
 use aif_cells::{Aif, Ref};
 use quartz_tree::{Name, NoMemory, Stmt};
 use sqlite_items::Items;
+use statement_builder::{Builder, Entry, Numbers};
 use std::alloc::Global;
 use std::test::Fail;
 

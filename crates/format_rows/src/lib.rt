@@ -1,0 +1,9 @@
+//! Rows of what is read and written: command words, traces, and the adapters to the operating system.
+#![tactic(auto)]
+
+#[cfg(test)]
+mod adapters;
+#[cfg(test)]
+mod traces;
+#[cfg(test)]
+mod words;

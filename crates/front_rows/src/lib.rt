@@ -1,0 +1,15 @@
+//! Rows of the front: texts, their tokens and trees, names, kinds, intervals and values, and what is said of them.
+#![tactic(auto)]
+
+#[cfg(test)]
+mod modules;
+#[cfg(test)]
+mod names;
+#[cfg(test)]
+mod rules;
+#[cfg(test)]
+mod statements;
+#[cfg(test)]
+mod tokens;
+#[cfg(test)]
+mod values;
