@@ -96,8 +96,8 @@ fn refuses_names(rt: HostRuntime) -> Result<(), Fail> {
     judge(&rt, rt.alloc(), &NAMES)
 }
 
-// Kinds.
-const KINDS: [Judged; 21] = [
+// Kinds of writes, targets and conditions.
+const KINDS_OF_WRITES: [Judged; 21] = [
     ("module M(bool !x) { next(x) = 1; }", "S4 at 1:21"),
     ("module M(nat{4} !n) { emit n; }", "S4 at 1:23"),
     ("module M(nat{4} !n) { emit next(n); }", "S4 at 1:23"),
@@ -155,12 +155,12 @@ const KINDS: [Judged; 21] = [
 ];
 
 #[test]
-fn refuses_kinds(rt: HostRuntime) -> Result<(), Fail> {
-    judge(&rt, rt.alloc(), &KINDS)
+fn refuses_kinds_of_writes(rt: HostRuntime) -> Result<(), Fail> {
+    judge(&rt, rt.alloc(), &KINDS_OF_WRITES)
 }
 
-// Kinds.
-const KINDS_MORE: [Judged; 21] = [
+// Kinds of parts inside others.
+const KINDS_OF_NESTED_PARTS: [Judged; 21] = [
     (
         "module M(bool ?c, nat{4} !n) { n = bv2nat(n) + nat2bv(c, 99); }",
         "S4 at 1:36",
@@ -230,12 +230,12 @@ const KINDS_MORE: [Judged; 21] = [
 ];
 
 #[test]
-fn refuses_kinds_more(rt: HostRuntime) -> Result<(), Fail> {
-    judge(&rt, rt.alloc(), &KINDS_MORE)
+fn refuses_kinds_of_nested_parts(rt: HostRuntime) -> Result<(), Fail> {
+    judge(&rt, rt.alloc(), &KINDS_OF_NESTED_PARTS)
 }
 
-// Kinds.
-const KINDS_STILL_MORE: [Judged; 21] = [
+// Kinds of values and of the parts of operators.
+const KINDS_OF_OPERATORS: [Judged; 21] = [
     ("module M(nat{8} !n) { next(n) = true; }", "S4 at 1:23"),
     ("module M(bv{4} !b) { b = 0b101; }", "S4 at 1:22"),
     ("module M(bool !x) { x = 1 & 2; }", "S4 at 1:27"),
@@ -278,12 +278,12 @@ const KINDS_STILL_MORE: [Judged; 21] = [
 ];
 
 #[test]
-fn refuses_kinds_still_more(rt: HostRuntime) -> Result<(), Fail> {
-    judge(&rt, rt.alloc(), &KINDS_STILL_MORE)
+fn refuses_kinds_of_operators(rt: HostRuntime) -> Result<(), Fail> {
+    judge(&rt, rt.alloc(), &KINDS_OF_OPERATORS)
 }
 
-// Kinds.
-const KINDS_AT_LAST: [Judged; 19] = [
+// Kinds of indexes, conditions and constants.
+const KINDS_OF_INDEXES_AND_CONSTANTS: [Judged; 19] = [
     (
         "module M([4]bool ?t, bool ?a, !x) { x = t[a]; }",
         "S4 at 1:41",
@@ -324,12 +324,12 @@ const KINDS_AT_LAST: [Judged; 19] = [
 ];
 
 #[test]
-fn refuses_kinds_at_last(rt: HostRuntime) -> Result<(), Fail> {
-    judge(&rt, rt.alloc(), &KINDS_AT_LAST)
+fn refuses_kinds_of_indexes_and_constants(rt: HostRuntime) -> Result<(), Fail> {
+    judge(&rt, rt.alloc(), &KINDS_OF_INDEXES_AND_CONSTANTS)
 }
 
-// Bounds of types, constants, literals, slices and intervals.
-const BOUNDS: [Judged; 22] = [
+// Several bounds in one text, of which the least place counts, and bounds beside other rules.
+const BOUNDS_IN_ORDER: [Judged; 22] = [
     ("module M([65]nat{0} !x) { }", "S5 at 1:11"),
     ("module M(nat{0} !x, !y = 3) { }", "S5 at 1:14"),
     ("module M(int{4} !x = -5) { }", "S5 at 1:22"),
@@ -403,12 +403,12 @@ const BOUNDS: [Judged; 22] = [
 ];
 
 #[test]
-fn refuses_bounds(rt: HostRuntime) -> Result<(), Fail> {
-    judge(&rt, rt.alloc(), &BOUNDS)
+fn refuses_bounds_in_order(rt: HostRuntime) -> Result<(), Fail> {
+    judge(&rt, rt.alloc(), &BOUNDS_IN_ORDER)
 }
 
-// Bounds of types, constants, literals, slices and intervals.
-const BOUNDS_MORE: [Judged; 22] = [
+// Bounds of quotients and sums, of types and of start values.
+const BOUNDS_OF_TYPES: [Judged; 22] = [
     (
         "module M(int{4} ?a, nat{4} !n) { n = a % 9999999999999999999; }",
         "S5 at 1:42",
@@ -461,12 +461,12 @@ const BOUNDS_MORE: [Judged; 22] = [
 ];
 
 #[test]
-fn refuses_bounds_more(rt: HostRuntime) -> Result<(), Fail> {
-    judge(&rt, rt.alloc(), &BOUNDS_MORE)
+fn refuses_bounds_of_types(rt: HostRuntime) -> Result<(), Fail> {
+    judge(&rt, rt.alloc(), &BOUNDS_OF_TYPES)
 }
 
-// Bounds of types, constants, literals, slices and intervals.
-const BOUNDS_STILL_MORE: [Judged; 21] = [
+// Bounds of constants, literals, operators, slices and conversions.
+const BOUNDS_OF_VALUES: [Judged; 21] = [
     ("module M(int{4} !n = -5) { }", "S5 at 1:22"),
     ("module M(nat{4} !n = -1) { }", "S5 at 1:22"),
     ("module M(nat{0} !n = 1) { }", "S5 at 1:14"),
@@ -542,8 +542,8 @@ const BOUNDS_STILL_MORE: [Judged; 21] = [
 ];
 
 #[test]
-fn refuses_bounds_still_more(rt: HostRuntime) -> Result<(), Fail> {
-    judge(&rt, rt.alloc(), &BOUNDS_STILL_MORE)
+fn refuses_bounds_of_values(rt: HostRuntime) -> Result<(), Fail> {
+    judge(&rt, rt.alloc(), &BOUNDS_OF_VALUES)
 }
 
 // Writes of inputs.

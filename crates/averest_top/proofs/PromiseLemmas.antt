@@ -18,7 +18,7 @@ use Rattle.averest_top.specs.declared.task.Task.{Task}
 use Rattle.averest_top.specs.declared.task.Task.TheVariants as task
 use Rattle.averest_top.specs.Commands.{is_strict_in, wants_pairs_in}
 use Rattle.averest_top.specs.Tasks.{Does, IsOfTask, RunsAs}
-use Rattle.averest_top.specs.Promise.{CanCome, ComesBefore, HasText, IsDone, IsExcused, LacksText, OfText, Outcome, refusal_status}
+use Rattle.averest_top.specs.Promise.{ComesBefore, HasText, IsDone, IsExcused, LacksText, OfText, Outcome, refusal_status}
 
 module _ (text : List ℕ) (t : Task) (left left' : Option (List ℕ)) (before after : List ℕ → Type 0) (shelf input out : Type 0) where
   abbrev IsOf : Status → Type 0
@@ -123,19 +123,6 @@ run_outcome text greatest left left' before after shelf input out s o m trace a 
     which (inr d) = told s d
 
 -- ---- statuses
-
-pub task_can_come : (s : Status) → IsOfTask s → CanCome s
-task_can_come (BadWitness k) o = o
-task_can_come status.Ok o = tt
-task_can_come Usage o = tt
-task_can_come ModuleUnavailable o = tt
-task_can_come (Refused q p) o = tt
-task_can_come (BadInput k) o = tt
-task_can_come (RunFault k q p) o = tt
-task_can_come ReadFault o = tt
-task_can_come WriteFault o = tt
-task_can_come StepLimit o = tt
-task_can_come NoMemory o = tt
 
 -- of a task's statuses want of memory alone comes before it
 pub task_before : (s : Status) → IsOfTask s → ComesBefore s → s ≡ NoMemory

@@ -24,8 +24,9 @@ use Rattle.command_texts.specs.Written.{IsWritten}
 use Rattle.cell_run.specs.Machine.{Executes, IsCompiled}
 use Rattle.cell_run.proofs.ExecuteLemmas.{compiled_cells_execute, outputs_counted}
 use Rattle.quartz_build.specs.declared.building.Built.{Built}
-use Rattle.quartz_build.specs.Broken.{IsAccepted, compiled_of, scene_in, term_in}
+use Rattle.quartz_build.specs.Broken.{IsAccepted, compiled_of, term_in}
 use Rattle.quartz_build.specs.Parts.{AreWanted, ArePartsOf, IsAifOf}
+use Rattle.text_laws.proofs.ConflictLemmas.{same_actions, same_scene}
 use Rattle.averest_top.specs.Tasks.{IsLooseCount, IsReady, SaysSize, WritesCells, loose_in}
 use Rattle.averest_top.proofs.SizeLemmas.{outputs_few}
 
@@ -43,12 +44,6 @@ is_compiled m a i = record {
 -- they execute it
 pub parts_execute : (wants : Bool) (m : ModuleTree) (b : Built) → ArePartsOf wants m b → Executes (resolved_vars m) (resolved_body m) b.aif
 parts_execute wants m b p = compiled_cells_execute (resolved_vars m) (resolved_body m) b.aif b.order.cells p.sound (is_compiled m b.aif p.cells_are) p.ordered
-
-same_scene : (m : ModuleTree) (a : Aif) → IsAifOf m a → scene a ≡ scene_in m
-same_scene m a i = ap (λ (c : Compiled). record { cells = c.cells; ways = c.paths; made = c.made }) i.compiled_to
-
-same_actions : (m : ModuleTree) (a : Aif) → IsAifOf m a → a.actions ≡ (compiled_of m).actions
-same_actions m a i = ap (λ (c : Compiled). c.actions) i.compiled_to
 
 -- their loose pairs are counted
 counted_pairs : (m : ModuleTree) (a : Aif) (told : Pairs) → IsAifOf m a → ArePairsOf a told → IsLooseCount m told.count

@@ -1,7 +1,7 @@
 -- What a command promises, over the shelf's texts, the trace, the output and the status.
 use Rattle.std.specs.Prelude.{◌≡◌, ◌⊎◌, ℕ, List, take, Option, Some, None}
 use Rattle.outside.specs.declared.status.Status.{Status}
-use Rattle.outside.specs.declared.status.Status.TheVariants.{Usage, ModuleUnavailable, Refused, ReadFault, WriteFault, NoMemory, BadWitness}
+use Rattle.outside.specs.declared.status.Status.TheVariants.{Usage, ModuleUnavailable, Refused, ReadFault, WriteFault, NoMemory}
 use Rattle.quartz_tree.specs.Kernel.{Kernel}
 use Rattle.quartz_tree.specs.Surfaces.{ModuleTree}
 use Rattle.quartz_expr.specs.Vars.{Vars}
@@ -11,7 +11,7 @@ use Rattle.quartz_build.specs.declared.fault.BuildFault.TheVariants as fault
 use Rattle.quartz_build.specs.Broken.{IsAccepted, Refuses}
 use Rattle.averest_top.specs.declared.task.Task.{Task}
 use Rattle.averest_top.specs.Commands.{is_strict_in}
-use Rattle.averest_top.specs.Tasks.{Does}
+use Rattle.averest_top.specs.Tasks.{Does, EndsAs}
 
 -- a status comes exactly with its cause, but for want of memory
 abbrev pub ComesWith : (status expected : Status) → (cause : Type 0) → Type 0
@@ -52,10 +52,14 @@ ComesBefore (Refused _ _) = Unit {0}
 ComesBefore NoMemory = Unit {0}
 ComesBefore _ = ⊥
 
--- the statuses that come while no command asks for a witness
-abbrev pub CanCome : Status → Type 0
-CanCome (BadWitness _) = ⊥
-CanCome _ = Unit {0}
+-- what can come of a task: it isn't begun, or it ends so
+abbrev pub CanComeOf : Task → Status → Type 0
+CanComeOf t status = ComesBefore status ⊎ EndsAs t status
+
+-- what can come where this is asked of a module, or nothing is
+abbrev pub CanCome : Option (List ℕ × Task) → Status → Type 0
+CanCome None status = ComesBefore status
+CanCome (Some asked) status = CanComeOf asked.1 status
 
 -- the text is one module that breaks no rule, and the task is done with it
 abbrev pub IsDone : (text : List ℕ) → Task → (left left' : Option (List ℕ)) → (before after : List ℕ → Type 0) → (input_rose out_rose : Type 0) → Status → Type 0

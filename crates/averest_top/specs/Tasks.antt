@@ -72,7 +72,7 @@ abbrev pub loose_in : Option Pairs → ℕ
 loose_in None = 0
 loose_in (Some told) = told.count
 
--- the statuses with which a task ends
+-- the statuses with which some task ends
 abbrev pub IsOfTask : Status → Type 0
 IsOfTask status.Ok = Unit {0}
 IsOfTask (BadInput _) = Unit {0}
@@ -82,3 +82,17 @@ IsOfTask WriteFault = Unit {0}
 IsOfTask StepLimit = Unit {0}
 IsOfTask NoMemory = Unit {0}
 IsOfTask _ = ⊥
+
+-- and those with which this one may end, whatever its text and its trace
+abbrev pub EndsAs : Task → Status → Type 0
+EndsAs t status.Ok = Unit {0}
+EndsAs t WriteFault = Unit {0}
+EndsAs t NoMemory = Unit {0}
+EndsAs (task.Run _) ReadFault = Unit {0}
+EndsAs (task.Run _) (BadInput _) = Unit {0}
+EndsAs (task.Run _) (RunFault _ _ _) = Unit {0}
+EndsAs (task.Run _) StepLimit = Unit {0}
+EndsAs (task.Load _ _) (BadInput _) = Unit {0}
+EndsAs (task.Load _ _) (RunFault _ _ _) = Unit {0}
+EndsAs (task.Load _ _) StepLimit = Unit {0}
+EndsAs _ _ = ⊥

@@ -1,4 +1,5 @@
-ghost use Rattle.std.specs.Prelude.{◌≡◌, ◌≢◌, ◌≤◌, ◌⊎◌, Bool, false, List, ℕ, Some, None};
+ghost use Rattle.std.specs.Prelude.{◌≡◌, ◌≢◌, ◌≤◌, ◌⊎◌, Bool, false, true, List, ℕ, Some, None};
+ghost use Rattle.quartz_tree.specs.declared.fault.Kind.TheVariants.{Conflict};
 ghost use Rattle.quartz_tree.specs.declared.place.Place.{Place};
 ghost use Rattle.quartz_tree.specs.Surfaces.{ModuleTree};
 ghost use Rattle.quartz_names.specs.Resolving.{resolved_body, resolved_vars};
@@ -8,7 +9,8 @@ ghost use Rattle.outside.specs.Report.{report_line};
 ghost use Rattle.outside.specs.declared.words.Command.{Command as Order};
 ghost use Rattle.trace_io.specs.Held.{CalledAtMost};
 ghost use Rattle.load_run.specs.Load.{Loaded};
-ghost use Rattle.quartz_build.specs.Broken.{IsAccepted, Refuses};
+ghost use Rattle.loose_runs.specs.Laws.{FlaggedAt};
+ghost use Rattle.quartz_build.specs.Broken.{IsAccepted, Refuses, term_in};
 ghost use Rattle.averest_top.specs.declared.task.Task.{Task as Demand};
 ghost use Rattle.averest_top.specs.declared.task.Task.TheVariants.{Run as run_task, Check as check_task, Aif as aif_task, Load as load_task};
 ghost use Rattle.averest_top.specs.Commands.{asked_in, calls_asked, is_run, is_strict_in, not_built, task_in, task_meant};
@@ -36,7 +38,7 @@ fn do_command<F: Shelf, S: Source, O: Sink>(
     ensures out_counts { O.faults out.old ≤ O.faults out.new }
     ensures read_fault { result ≡ Status.ReadFault → Rose (S.faults input.old) (S.faults input.new) }
     ensures write_fault { result ≡ Status.WriteFault → Rose (O.faults out.old) (O.faults out.new) }
-    ensures possible { CanCome result }
+    ensures possible { CanCome (asked_in command.now) result }
     ensures no_usage { result ≢ Status.Usage }
     ensures unbuilt { task_in command.now ≡ None → result ≡ not_built }
     ensures unasked { task_in command.now ≡ None → shelf.new ≡ shelf.old }
@@ -68,7 +70,7 @@ fn obey<F: Shelf, S: Source, O: Sink>(
     ensures out_counts { O.faults out.old ≤ O.faults out.new }
     ensures read_fault { result ≡ Status.ReadFault → Rose (S.faults input.old) (S.faults input.new) }
     ensures write_fault { result ≡ Status.WriteFault → Rose (O.faults out.old) (O.faults out.new) }
-    ensures possible { CanCome result }
+    ensures possible { CanCome (task_meant words.now) result }
     ensures usage { ComesWith result Status.Usage (meant words.now ≡ None) }
     ensures unbuilt { (order : Order) → meant words.now ≡ Some order → task_in order ≡ None → (result ≡ not_built) ⊎ (result ≡ Status.NoMemory) }
     ensures unasked { task_meant words.now ≡ None → shelf.new ≡ shelf.old }
@@ -158,10 +160,19 @@ pub fn averest<
         IsExcused result (Rose (F.faults shelf.old) (F.faults shelf.new))
         ⊎ Loaded (resolved_vars m) (resolved_body m) seed steps (O.stands out.old) (O.stands out.new) (Rose (O.faults out.old) (O.faults out.new)) result }
 
-    // A failed read or write is counted, and there is no witness.
+    // With `run` it ends in a conflict only at the declaration of a variable that some loose pair of writes writes, and never
+    // where the text is accepted with such pairs refused.
+    ensures conflicts { (name text : List ℕ) (most : ℕ) → task_meant words.now ≡ Some (name, run_task most) → HasText (F.texts shelf.old) name text →
+        (m : ModuleTree) (trace : List ℕ) → IsAccepted false text m → S.left input.old ≡ Some trace →
+        (k : ℕ) (p : Place) → result ≡ Status.RunFault k Conflict p → FlaggedAt (resolved_vars m) (term_in m) p }
+    ensures tight { (name text : List ℕ) (most : ℕ) → task_meant words.now ≡ Some (name, run_task most) → HasText (F.texts shelf.old) name text →
+        (m : ModuleTree) (trace : List ℕ) → IsAccepted true text m → S.left input.old ≡ Some trace →
+        (k : ℕ) (p : Place) → result ≢ Status.RunFault k Conflict p }
+
+    // A failed read or write is counted, and each task ends with statuses of its own, over any shelf, source and sinks.
     ensures read_fault { result ≡ Status.ReadFault → Rose (S.faults input.old) (S.faults input.new) }
     ensures write_fault { result ≡ Status.WriteFault → Rose (O.faults out.old) (O.faults out.new) }
-    ensures possible { CanCome result }
+    ensures possible { CanCome (task_meant words.now) result }
 
     // Before a task is begun nothing is taken and nothing put.
     ensures untouched { ComesBefore result → (input.new ≡ input.old) × (out.new ≡ out.old) }

@@ -12,7 +12,7 @@ ghost use Rattle.command_texts.specs.Written.{IsWritten};
 ghost use Rattle.load_run.specs.Load.{Loaded};
 ghost use Rattle.quartz_build.specs.Parts.{ArePartsOf};
 ghost use Rattle.averest_top.specs.Commands.{calls_of, is_run, wants_pairs_in};
-ghost use Rattle.averest_top.specs.Tasks.{Does, IsOfTask, IsReady, RunsAs, loose_in};
+ghost use Rattle.averest_top.specs.Tasks.{Does, EndsAs, IsOfTask, IsReady, RunsAs, loose_in};
 
 use crate::task::Task;
 use aif_cells::write_text;
@@ -62,6 +62,7 @@ fn count_loose(pairs: &Option<Pairs>) -> u64
 // Says how large a module is.
 fn check_built<O: Sink>(built: &Built, out: &mut O) -> Status
     ensures out_counts { O.faults out.old ≤ O.faults out.new }
+    ensures ends { (result ≡ Status.Ok) ⊎ (result ≡ Status.WriteFault) }
     ensures written { IsWritten (accepted_text (length built.now.aif.cells) (length built.now.aif.registers) (loose_in built.now.pairs))
         (O.stands out.old) (O.stands out.new) (Rose (O.faults out.old) (O.faults out.new)) result }
 {
@@ -77,6 +78,7 @@ fn check_built<O: Sink>(built: &Built, out: &mut O) -> Status
 fn write_built<O: Sink>(built: &Built, out: &mut O) -> Status
     requires ready { IsReady built.now }
     ensures out_counts { O.faults out.old ≤ O.faults out.new }
+    ensures ends { (result ≡ Status.Ok) ⊎ (result ≡ Status.WriteFault) }
     ensures written { IsWritten (aif_text built.now.aif) (O.stands out.old) (O.stands out.new) (Rose (O.faults out.old) (O.faults out.new)) result }
 {
     match write_text(&built.aif, out) {
@@ -116,6 +118,7 @@ pub(crate) fn do_task<S: Source, O: Sink>(
     ensures asked { CalledAtMost (calls_of task) (S.calls input.old) (S.calls input.new) }
     ensures untaken { is_run task ≡ false → input.new ≡ input.old }
     ensures of_task { IsOfTask result }
+    ensures ends { EndsAs task result }
     ensures read_fault { result ≡ Status.ReadFault → Rose (S.faults input.old) (S.faults input.new) }
     ensures write_fault { result ≡ Status.WriteFault → Rose (O.faults out.old) (O.faults out.new) }
     ensures untouched { result ≡ Status.NoMemory → (input.new ≡ input.old) × (out.new ≡ out.old) }

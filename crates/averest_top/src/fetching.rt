@@ -2,7 +2,7 @@ ghost use Rattle.std.specs.Prelude.{◌≡◌, ◌≢◌, ◌≤◌, ◌⊎◌, 
 ghost use Rattle.outside.specs.Bytes.{Rose, Unfetched};
 ghost use Rattle.trace_io.specs.Held.{CalledAtMost};
 ghost use Rattle.averest_top.specs.Commands.{calls_of, is_run};
-ghost use Rattle.averest_top.specs.Promise.{CanCome, ComesBefore, HasText, LacksText, OfText, refusal_status};
+ghost use Rattle.averest_top.specs.Promise.{CanComeOf, ComesBefore, HasText, LacksText, OfText, refusal_status};
 
 use crate::doing::do_task;
 use crate::task::Task;
@@ -38,7 +38,7 @@ fn do_text<S: Source, O: Sink>(
     ensures untaken { is_run task ≡ false → input.new ≡ input.old }
     ensures read_fault { result ≡ Status.ReadFault → Rose (S.faults input.old) (S.faults input.new) }
     ensures write_fault { result ≡ Status.WriteFault → Rose (O.faults out.old) (O.faults out.new) }
-    ensures possible { CanCome result }
+    ensures possible { CanComeOf task result }
     ensures no_usage { result ≢ Status.Usage }
     ensures available { result ≢ Status.ModuleUnavailable }
     ensures untouched { ComesBefore result → (input.new ≡ input.old) × (out.new ≡ out.old) }
@@ -75,7 +75,7 @@ fn do_fetched<F: Shelf, S: Source, O: Sink>(
     ensures untaken { is_run task ≡ false → input.new ≡ input.old }
     ensures read_fault { result ≡ Status.ReadFault → Rose (S.faults input.old) (S.faults input.new) }
     ensures write_fault { result ≡ Status.WriteFault → Rose (O.faults out.old) (O.faults out.new) }
-    ensures possible { CanCome result }
+    ensures possible { CanComeOf task result }
     ensures no_usage { result ≢ Status.Usage }
     ensures unavailable { result ≡ Status.ModuleUnavailable → Unfetched (F.texts shelf.old) name.now (F.faults shelf.old) (F.faults shelf.new) }
     ensures absent { LacksText (F.texts shelf.old) name.now → result ≡ Status.ModuleUnavailable }
@@ -106,7 +106,7 @@ pub(crate) fn do_module<F: Shelf, S: Source, O: Sink>(
     ensures untaken { is_run task ≡ false → input.new ≡ input.old }
     ensures read_fault { result ≡ Status.ReadFault → Rose (S.faults input.old) (S.faults input.new) }
     ensures write_fault { result ≡ Status.WriteFault → Rose (O.faults out.old) (O.faults out.new) }
-    ensures possible { CanCome result }
+    ensures possible { CanComeOf task result }
     ensures no_usage { result ≢ Status.Usage }
     ensures unavailable { result ≡ Status.ModuleUnavailable → Unfetched (F.texts shelf.old) name.now (F.faults shelf.old) (F.faults shelf.new) }
     ensures absent { LacksText (F.texts shelf.old) name.now → (result ≡ Status.ModuleUnavailable) ⊎ (result ≡ Status.NoMemory) }

@@ -38,12 +38,12 @@ use Rattle.loose_runs.proofs.NextQuietLemmas.{depths_here, initial_quiet, next_q
 
 -- ---- registers as lists
 
-next_listed : (σ : Assignment) (rs : List Register) (r : ℕ) → next_registers σ rs r ≡ number_at (next_values σ rs) r
+pub next_listed : (σ : Assignment) (rs : List Register) (r : ℕ) → next_registers σ rs r ≡ number_at (next_values σ rs) r
 next_listed σ [] r = refl
 next_listed σ (x ∷ rs) zero = refl
 next_listed σ (x ∷ rs) (suc r) = next_listed σ rs r
 
-initial_listed : (rs : List Register) (r : ℕ) → initial_registers rs r ≡ number_at (initial_values rs) r
+pub initial_listed : (rs : List Register) (r : ℕ) → initial_registers rs r ≡ number_at (initial_values rs) r
 initial_listed [] r = refl
 initial_listed (x ∷ rs) zero = refl
 initial_listed (x ∷ rs) (suc r) = initial_listed rs r

@@ -1,6 +1,7 @@
 use Rattle.outside.specs.Bytes.{Rose}
 use Rattle.averest_top.specs.declared.task.Task.TheVariants as task
 use Rattle.averest_top.proofs.PromiseLemmas.{accepted_does, accepted_else, refused_exactly, run_outcome}
+use Rattle.averest_top.proofs.ConflictLemmas.{accepted_anyhow, conflict_flagged, never_conflict}
 use Rattle.averest_top.proofs.command.averest.Goals as goal
 
 pub returns-clause-refused : goal.returns-clause-refused
@@ -20,3 +21,13 @@ returns-clause-cells g c = λ name text m h tree a. accepted_does text task.Aif 
 
 pub returns-clause-load : goal.returns-clause-load
 returns-clause-load g c = λ name text seed steps m h tree a. accepted_does text (task.Load seed steps) (g.S.Source.left c.args.input.now) (g.S.Source.left c.obey-status.new.input) _ _ _ (Rose (g.S.Source.faults c.args.input.now) (g.S.Source.faults c.obey-status.new.input)) _ c.obey-status.result (c.obey-status.ensures.of_text name text (task.Load seed steps) m h) tree a
+
+pub returns-clause-conflicts : goal.returns-clause-conflicts
+returns-clause-conflicts g c = λ name text most m h tree trace a e k p s.
+    conflict_flagged text tree trace most k p _ _ _ _ _ _ c.obey-status.result a
+    (run_outcome text most _ _ _ _ _ _ _ c.obey-status.result (c.obey-status.ensures.of_text name text (task.Run most) m h) tree trace a e) s
+
+pub returns-clause-tight : goal.returns-clause-tight
+returns-clause-tight g c = λ name text most m h tree trace a e k p s.
+    never_conflict text tree trace most k p _ _ _ _ _ _ c.obey-status.result a
+    (run_outcome text most _ _ _ _ _ _ _ c.obey-status.result (c.obey-status.ensures.of_text name text (task.Run most) m h) tree trace (accepted_anyhow text tree a) e) s

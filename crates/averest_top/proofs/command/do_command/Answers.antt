@@ -5,6 +5,8 @@ use Rattle.trace_io.specs.Held.{CalledAtMost}
 use Rattle.averest_top.specs.declared.task.Task.{Task}
 use Rattle.averest_top.specs.Promise.{HasText, LacksText, OfText}
 use Rattle.averest_top.proofs.CommandLemmas.{calls_of_task, never_asked, same_task}
+use Rattle.averest_top.specs.Commands.{asked_in}
+use Rattle.averest_top.proofs.EndLemmas.{comes_before, comes_of_task}
 use Rattle.averest_top.proofs.command.do_command.Goals as goal
 
 pub returns-in-Some-clause-asked : goal.returns-in-Some-clause-asked
@@ -36,3 +38,9 @@ returns-in-None-clause-absent g c = λ name t a. never_asked c.args.command.now 
 
 pub returns-in-None-clause-of_text : goal.returns-in-None-clause-of_text
 returns-in-None-clause-of_text g c = λ name text t a. never_asked c.args.command.now name t c.in-None.ensures a
+
+pub returns-in-Some-clause-possible : goal.returns-in-Some-clause-possible
+returns-in-Some-clause-possible g c = comes_of_task c.args.command.now c.in-Some.task c.do_module.result c.in-Some.ensures c.do_module.ensures.possible
+
+pub returns-in-None-clause-possible : goal.returns-in-None-clause-possible
+returns-in-None-clause-possible g c = comes_before (asked_in c.args.command.now) c.status_of_fault.result (rw c.status_of_fault.ensures tt)

@@ -1,5 +1,6 @@
 use Rattle.std.specs.Prelude.{Some, None}
 use Rattle.averest_top.proofs.CommandLemmas.{no_task, task_of_words}
+use Rattle.averest_top.proofs.EndLemmas.{comes_of_words}
 use Rattle.averest_top.proofs.command.obey.Goals as goal
 
 pub returns-in-Ok-clause-absent : goal.returns-in-Ok-clause-absent
@@ -16,3 +17,6 @@ returns-in-Ok-clause-untaken g c = λ name t m r. c.do_command.ensures.untaken n
 
 pub returns-in-Ok-clause-unasked : goal.returns-in-Ok-clause-unasked
 returns-in-Ok-clause-unasked g c = λ m. c.do_command.ensures.unasked (no_task _ (task_of_words c.args.words.now _ None c.in-Ok.ensures.command m))
+
+pub returns-in-Ok-clause-possible : goal.returns-in-Ok-clause-possible
+returns-in-Ok-clause-possible g c = comes_of_words c.args.words.now _ c.do_command.result c.in-Ok.ensures.command c.do_command.ensures.possible

@@ -1,5 +1,6 @@
 use Rattle.std.proofs.Common.{inr}
 use Rattle.averest_top.proofs.TaskLemmas.{parts_execute, says_size, writes_cells}
+use Rattle.averest_top.proofs.EndLemmas.{load_ends, run_ends, written_ends}
 use Rattle.averest_top.proofs.doing.do_task.Goals as goal
 
 pub returns-in-Run-clause-done : goal.returns-in-Run-clause-done
@@ -13,3 +14,15 @@ returns-in-Aif-clause-done g c = rw c.in-Aif.is (λ m p. inr (writes_cells _ m c
 
 pub returns-in-Load-clause-done : goal.returns-in-Load-clause-done
 returns-in-Load-clause-done g c = rw c.in-Load.is (λ m p. c.load_built.ensures.done _ _ (parts_execute _ m c.args.built.now p))
+
+pub returns-in-Run-clause-ends : goal.returns-in-Run-clause-ends
+returns-in-Run-clause-ends g c = rw c.in-Run.is (run_ends c.in-Run.most_steps c.run_built.result c.run_built.ensures.of_task)
+
+pub returns-in-Check-clause-ends : goal.returns-in-Check-clause-ends
+returns-in-Check-clause-ends g c = written_ends c.args.task c.check_built.result c.check_built.ensures.ends
+
+pub returns-in-Aif-clause-ends : goal.returns-in-Aif-clause-ends
+returns-in-Aif-clause-ends g c = written_ends c.args.task c.write_built.result c.write_built.ensures.ends
+
+pub returns-in-Load-clause-ends : goal.returns-in-Load-clause-ends
+returns-in-Load-clause-ends g c = rw c.in-Load.is (load_ends c.in-Load.seed c.in-Load.steps c.load_built.result c.load_built.ensures.of_task c.load_built.ensures.no_read_fault)

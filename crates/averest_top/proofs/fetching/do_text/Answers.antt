@@ -1,7 +1,8 @@
-use Rattle.std.proofs.Common.{Ok, Err}
+use Rattle.std.proofs.Common.{Ok, Err, inl, inr}
 use Rattle.averest_top.specs.Commands.{wants_pairs_in}
 use Rattle.averest_top.proofs.PromiseLemmas.{built_for, done_text, refused_text, strict_wants}
 use Rattle.averest_top.proofs.TaskLemmas.{parts_ready}
+use Rattle.averest_top.proofs.EndLemmas.{refusal_before}
 use Rattle.averest_top.proofs.fetching.do_text.Goals as goal
 
 pub build-requires : goal.build-requires
@@ -19,3 +20,9 @@ pub returns-in-Err-clause-of_text : goal.returns-in-Err-clause-of_text
 returns-in-Err-clause-of_text g c =
     rw c.status_of_fault.ensures (refused_text c.args.text.now c.args.task _ _ _ _ _ _ _ (wants_pairs_in c.args.task) c.in-Err.fault
     (built_for c.args.text.now c.args.task c.is_strict.result c.wants_pairs.result (Err c.in-Err.fault) c.is_strict.ensures c.wants_pairs.ensures c.in-Err.ensures))
+
+pub returns-in-Ok-clause-possible : goal.returns-in-Ok-clause-possible
+returns-in-Ok-clause-possible g c = inr c.do_task.ensures.ends
+
+pub returns-in-Err-clause-possible : goal.returns-in-Err-clause-possible
+returns-in-Err-clause-possible g c = rw c.status_of_fault.ensures (inl (refusal_before c.in-Err.fault))
