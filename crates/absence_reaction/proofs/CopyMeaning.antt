@@ -25,6 +25,7 @@ use Rattle.absence_reaction.specs.Closing.{Built, arms_for, can_conflict, closed
 use Rattle.absence_reaction.specs.Meaning.{AreBits, AreDistinctBelow, AreWritesOf, ClosingGoesBack, ClosingKeeps, ClosingResolves, FlagsAreBits, GoesOnAt, GoesOnFrom, GuardsAreBits, IsBit, WriteAlike, copy_acts, given_values, is_among, or_nought, pendings_of, raised, tree_worth, worth_in}
 use Rattle.absence_reaction.proofs.WriteLemmas.{acting, now_written, next_written}
 use Rattle.absence_reaction.proofs.ElementMeaning.{conflict_is, first_differs, flag_bit, flag_is, pending_is, quiet_alone, quiet_beside, unpended, value_is}
+use Rattle.quartz_expr.proofs.TruthLemmas.{or_parts}
 
 -- ---- what stays as it was
 
@@ -129,15 +130,11 @@ after_value v c j k β = follow none_free (flag_extends v.place (arms_for j c.ne
 pub element_extends : (v : Shape) (c : VarCopy) (j k : ℕ) (β : Built) → Extends (is_cell k) β.cells (last_of v c j k β)
 element_extends v c j k β = follow (is_cell k) (set_extends β.cells k (record { tree = value_tree v c j; place = v.place })) (loosened none_free (is_cell k) (λ q e. refl) (after_value v c j k β))
 
-either : (a b : Bool) → (a || b) ≡ false → (a ≡ false) × (b ≡ false)
-either false b e = (refl, e)
-either true b e = absurd (cc)
-
 pub from_extends : (v : Shape) (c : VarCopy) (j : ℕ) (ks : List ℕ) (β : Built) → Extends (λ q. is_among q ks) β.cells (closed_from v c j ks β).built.cells
 from_extends v c j [] β = same_extends (λ q. false) β.cells
 from_extends v c j (k ∷ ks) β = follow (λ q. is_among q (k ∷ ks))
-    (loosened (is_cell k) (λ q. is_among q (k ∷ ks)) (λ q e. (either (q == k) (is_among q ks) e).0) (element_extends v c j k β))
-    (loosened (λ q. is_among q ks) (λ q. is_among q (k ∷ ks)) (λ q e. (either (q == k) (is_among q ks) e).1) (from_extends v c (j + 1) ks (closed_element v c j k β).built))
+    (loosened (is_cell k) (λ q. is_among q (k ∷ ks)) (λ q e. (or_parts (q == k) (is_among q ks) e).0) (element_extends v c j k β))
+    (loosened (λ q. is_among q ks) (λ q. is_among q (k ∷ ks)) (λ q e. (or_parts (q == k) (is_among q ks) e).1) (from_extends v c (j + 1) ks (closed_element v c j k β).built))
 
 -- ---- monitors come behind those that were there
 
@@ -170,7 +167,7 @@ closing_keeps v c before =
 
 pub closing_goes_back : ClosingGoesBack
 closing_goes_back v c before σ free meets k d is bound =
-    let both : (free k ≡ false) × (is_among k c.values ≡ false) = either (free k) (is_among k c.values) bound in
+    let both : (free k ≡ false) × (is_among k c.values ≡ false) = or_parts (free k) (is_among k c.values) bound in
     meets k d ((from_extends v c 0 c.values before).kept k (there before.cells k d is) both.1 ∙ is) both.0
 
 -- ---- one element
@@ -227,7 +224,7 @@ element_conflicts σ n v c j k β h met own =
 
 -- ---- all elements
 
-not_among : (n q : ℕ) (ks : List ℕ) → AreDistinctBelow n ks → n ≤ q → is_among q ks ≡ false
+pub not_among : (n q : ℕ) (ks : List ℕ) → AreDistinctBelow n ks → n ≤ q → is_among q ks ≡ false
 not_among n q [] d h = refl
 not_among n q (k ∷ ks) d h = ap (λ b. b || is_among q ks) (above k d.0) ∙ not_among n q ks d.2 h
   where

@@ -35,7 +35,7 @@ below_more n m ds le h k x lt = let at : slice_index_or ds k x < n = h k x lt in
 both_below : (n : ℕ) (xs ys : List ℕ) → All (λ d. d < n) xs → All (λ d. d < n) ys → All (λ d. d < n) (xs ++ ys)
 both_below n xs ys p q = All-append (λ d. d < n) xs ys p q
 
-or_below : (n : ℕ) (ts : List Tree) → All (Below n) ts → Below n (or_all ts)
+pub or_below : (n : ℕ) (ts : List Tree) → All (Below n) ts → Below n (or_all ts)
 or_below n [] h = All-nil (λ d. d < n)
 or_below n (t ∷ []) h = All-head (Below n) t [] h
 or_below n (t ∷ u ∷ us) h = both_below n (cells_in t) (cells_in (or_all (u ∷ us))) (All-head (Below n) t (u ∷ us) h) (or_below n (u ∷ us) (All-tail (Below n) t (u ∷ us) h))
@@ -117,11 +117,11 @@ LateNameEarlier n cs = (k : ℕ) (c : Defined) → n ≤ k → slice_get cs k �
 no_late : (cs : List Defined) → LateNameEarlier (length cs) cs
 no_late cs k c le is = let lt : k < length cs = there cs k c is in absurd (omega (arith, lt, le))
 
-get_new : (xs : List Defined) (x : Defined) → slice_get (xs ++ x ∷ []) (length xs) ≡ Some x
+pub get_new : (xs : List Defined) (x : Defined) → slice_get (xs ++ x ∷ []) (length xs) ≡ Some x
 get_new [] x = refl
 get_new (y ∷ xs) x = get_new xs x
 
-the_one : (x c : Defined) → Some x ≡ Some c → x ≡ c
+pub the_one : (x c : Defined) → Some x ≡ Some c → x ≡ c
 the_one x c e = cc
 
 pushed : (n : ℕ) (cs : List Defined) (x : Defined) → Below (length cs) x.tree → LateNameEarlier n cs → LateNameEarlier n (cs ++ x ∷ [])

@@ -86,7 +86,7 @@ element_longer v c j k β =
       conflict_longer v.place false pending.ref nexts first,
     )
 
-length_defined : (cs : List Cell) → length (all_defined cs) ≡ length cs
+pub length_defined : (cs : List Cell) → length (all_defined cs) ≡ length cs
 length_defined [] = refl
 length_defined (c ∷ cs) = let e : length (all_defined cs) ≡ length cs = length_defined cs in omega (arith, e)
 

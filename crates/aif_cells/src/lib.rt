@@ -15,7 +15,7 @@ mod valuation;
 pub use aif::{Aif, Order, count_elements};
 pub use cells::{Action, Cell, Made, Monitor, Path, Register};
 pub use laws::extension_keeps_equations;
-pub use making::{add_cell, any_of, join};
+pub use making::{add_cell, any_of, join, reference_in};
 pub use reference::Ref;
 pub use text::write_text;
 pub use tree::{Tree, TreeOne, TreeTwo};

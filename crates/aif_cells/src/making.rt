@@ -44,8 +44,8 @@ fn alternatives(alloc: Global, front: Vec<Tree>, last: Tree) -> Result<Tree, NoM
     Ok(Tree::Any(front, Box::new(alloc, last)?))
 }
 
-// The reference that a tree is, if it is one.
-fn reference_in(t: &Tree) -> Option<Ref>
+/// The reference that a tree is, if it is one.
+pub fn reference_in(t: &Tree) -> Option<Ref>
     ensures { result ≡ plain_reference_in (tree t.now) }
 {
     match t {

@@ -16,10 +16,8 @@ use Rattle.statement_cells.proofs.EarlierWholeLemmas.{outputs_end}
 use Rattle.statement_cells.proofs.ScopeGrowLemmas.{reserve_longer}
 use Rattle.statement_cells.proofs.SurfaceGrowLemmas.{depth_grows, surface_grows}
 use Rattle.statement_cells.proofs.WholeLemmas.{Kept, compiled_kept}
-
-numbers_counted : (n k : ℕ) → length (numbers_from n k) ≡ k
-numbers_counted n zero = refl
-numbers_counted n (suc k) = ap suc (numbers_counted (n + 1) k)
+use Rattle.cell_run.proofs.ExecuteLemmas.{numbers_counted}
+use Rattle.macro_steps.proofs.CompleteLemmas.{kept_longer}
 
 -- each element of an output has a cell
 outputs_begun : (vs : Vars) (xs : List ℕ) (κ : Copies) (β : Builder) → length (output_cells (begun vs xs κ β).outputs) + length β.cells ≡ length (begun vs xs κ β).built.cells
@@ -43,13 +41,6 @@ within : {A : Type 0} (xs : List A) (n : ℕ) (x : A) → slice_get xs n ≡ Som
 within [] n x e = absurd (cc e)
 within (y ∷ ys) zero x e = omega arith
 within (y ∷ ys) (suc n) x e = let k : n < length ys = within ys n x e in omega (arith, k)
-
-kept_longer : (cs ds : List Defined) → Kept cs ds → length cs ≤ length ds
-kept_longer [] ds k = omega arith
-kept_longer (c ∷ cs) ds k =
-    let last = there (c ∷ cs) (length cs) (omega arith) in
-    let in_ds : length cs < length ds = within ds (length cs) last.0 (k (length cs) last.0 last.1) in
-    omega (arith, in_ds)
 
 -- building the body and closing the outputs makes cells alone
 pub outputs_few : (vs : Vars) (t : Term) → IsSoundModule vs t → length (compiled vs t).outputs ≤ length (compiled vs t).cells

@@ -26,9 +26,10 @@ use Rattle.cell_run.proofs.ExecuteLemmas.{compiled_cells_execute, outputs_counte
 use Rattle.quartz_build.specs.declared.building.Built.{Built}
 use Rattle.quartz_build.specs.Broken.{IsAccepted, compiled_of, term_in}
 use Rattle.quartz_build.specs.Parts.{AreWanted, ArePartsOf, IsAifOf}
-use Rattle.text_laws.proofs.ConflictLemmas.{same_actions, same_scene}
 use Rattle.averest_top.specs.Tasks.{IsLooseCount, IsReady, SaysSize, WritesCells, loose_in}
 use Rattle.averest_top.proofs.SizeLemmas.{outputs_few}
+use Rattle.absence_reaction.proofs.ElementLemmas.{length_defined}
+use Rattle.quartz_build.proofs.BuildLemmas.{same_scene, same_actions}
 
 -- ---- the cells of a module
 
@@ -55,17 +56,13 @@ counted_pairs m a told i p = record {
   counted = p.counted;
 }
 
-defined_long : (cs : List Cell) → length (all_defined cs) ≡ length cs
-defined_long [] = refl
-defined_long (c ∷ cs) = ap suc (defined_long cs)
-
 -- what is said of a module's size
 pub says_size : (m : ModuleTree) (b : Built) (before after : List ℕ → Type 0) (rose : Type 0) (s : Status) → ArePartsOf true m b
     → IsWritten (accepted_text (length b.aif.cells) (length b.aif.registers) (loose_in b.pairs)) before after rose s → SaysSize m before after rose s
 says_size m b before after rose s p w = by_pairs b.pairs p.pairs_are w
   where
     cells : length b.aif.cells ≡ length (compiled_of m).cells
-    cells = sym (defined_long b.aif.cells) ∙ ap (λ (c : Compiled). length c.cells) p.cells_are.compiled_to
+    cells = sym (length_defined b.aif.cells) ∙ ap (λ (c : Compiled). length c.cells) p.cells_are.compiled_to
 
     registers : length b.aif.registers ≡ length (compiled_of m).registers
     registers = ap (λ (c : Compiled). length c.registers) p.cells_are.compiled_to

@@ -4,25 +4,13 @@ use Rattle.trace_io.specs.Held.{CalledAtMost}
 use Rattle.trace_io.specs.Trace.{Trail, most_calls}
 use Rattle.cell_run.specs.Room.{calls_before}
 use Rattle.cell_run.specs.Told.{calls_of_run}
+use Rattle.trace_io.proofs.TraceLemmas.{calls_together}
+use Rattle.trace_io.proofs.ReadLemmas.{more_calls}
 
 -- not at all
 pub not_called : (n : ℕ) (c : Option ℕ) → CalledAtMost n c c
 not_called n None = refl
 not_called n (Some a) = (a, refl, omega arith)
-
--- at first, and then again
-called_both : (m n : ℕ) (a b d : Option ℕ) → CalledAtMost m a b → CalledAtMost n b d → CalledAtMost (m + n) a d
-called_both m n None b d h k = subst (λ (x : Option ℕ). CalledAtMost n x d) h k
-called_both m n (Some x) b d h k = behind (subst (λ (y : Option ℕ). CalledAtMost n y d) h.1 k)
-  where
-    behind : (y : ℕ) × (d ≡ Some y) × (y ≤ h.0 + n) → (y : ℕ) × (d ≡ Some y) × (y ≤ x + (m + n))
-    behind (y, e, l) =
-        let first : h.0 ≤ x + m = h.2 in
-        (y, e, omega (arith, first, l))
-
-more_calls : (m n : ℕ) (a b : Option ℕ) → m ≤ n → CalledAtMost m a b → CalledAtMost n a b
-more_calls m n None b l h = h
-more_calls m n (Some x) b l (y, e, k) = (y, e, omega (arith, l, k))
 
 -- a step more
 step_calls : (fresh keeps : Bool) (k : ℕ) → calls_before fresh k + (if fresh && keeps then 131076 else 65538) ≤ 65538 * (k + 2)
@@ -33,7 +21,7 @@ step_calls false keeps k = omega arith
 pub asked_again : (k : ℕ) (start now : Trail) (a b d : Option ℕ) → CalledAtMost (calls_before start.is_fresh k) a b → CalledAtMost (most_calls start now) b d → now.is_fresh ≡ false → CalledAtMost (calls_before now.is_fresh (k + 1)) a d
 asked_again k start now a b d h n f =
     subst (λ (t : Bool). CalledAtMost (calls_before t (k + 1)) a d) (sym f)
-    (more_calls (calls_before start.is_fresh k + most_calls start now) (65538 * (k + 1 + 1)) a d (same (step_calls start.is_fresh now.course.may_keep k)) (called_both (calls_before start.is_fresh k) (most_calls start now) a b d h n))
+    (more_calls (calls_before start.is_fresh k + most_calls start now) (65538 * (k + 1 + 1)) a d (same (step_calls start.is_fresh now.course.may_keep k)) (calls_together (calls_before start.is_fresh k) (most_calls start now) a b d h n))
   where
     same : {n : ℕ} → n ≤ 65538 * (k + 2) → n ≤ 65538 * (k + 1 + 1)
     same h = omega (arith, h)
@@ -41,7 +29,7 @@ asked_again k start now a b d h n f =
 -- the last step that a run asks for
 pub asked_at_last : (most k : ℕ) (start now : Trail) (a b d : Option ℕ) → k ≤ most → CalledAtMost (calls_before start.is_fresh k) a b → CalledAtMost (most_calls start now) b d → CalledAtMost (calls_of_run most) a d
 asked_at_last most k start now a b d l h n =
-    more_calls (calls_before start.is_fresh k + most_calls start now) (calls_of_run most) a d (within (step_calls start.is_fresh now.course.may_keep k)) (called_both (calls_before start.is_fresh k) (most_calls start now) a b d h n)
+    more_calls (calls_before start.is_fresh k + most_calls start now) (calls_of_run most) a d (within (step_calls start.is_fresh now.course.may_keep k)) (calls_together (calls_before start.is_fresh k) (most_calls start now) a b d h n)
   where
     within : {n : ℕ} → n ≤ 65538 * (k + 2) → n ≤ 65538 * (most + 2)
     within h = omega (arith, l, h)

@@ -70,7 +70,7 @@ one_for_each vs σ [] κ β = refl
 one_for_each vs σ (x ∷ xs) κ β = ap suc (one_for_each vs σ xs _ _)
 
 -- there is a cell for each element of an output
-numbers_counted : (n k : ℕ) → length (numbers_from n k) ≡ k
+pub numbers_counted : (n k : ℕ) → length (numbers_from n k) ≡ k
 numbers_counted n zero = refl
 numbers_counted n (suc k) = ap suc (numbers_counted (n + 1) k)
 

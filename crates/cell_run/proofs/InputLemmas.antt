@@ -17,6 +17,8 @@ use Rattle.trace_io.specs.Values.{if_in_range, reads_value, spelled}
 use Rattle.trace_io.specs.Inputs.{same_flow, count_in, scalars, types_with, input_types, fields_from, fields_named, all_named, and_then_fields, are_different}
 use Rattle.trace_io.specs.Reading.{up_to_none, before_values, reads_values, reads_line, keeps, next_value, reads_fields, reads_next, is_header, behind_first, named_by, head, line_steps, next_steps, zeros, headed_steps, steps_of}
 use Rattle.cell_run.specs.Machine.{AreOfTypes}
+use Rattle.quartz_expr.proofs.TruthLemmas.{and_parts}
+use Rattle.quartz_expr.proofs.RangeLemmas.{zero_in_base}
 
 -- each of these steps that is read has a value for each type
 abbrev pub AreStepsOf : List Base → List (Option (List ℤ)) → Type 0
@@ -170,40 +172,19 @@ abbrev pub HaveZero : List Base → Type 0
 HaveZero [] = Unit {0}
 HaveZero (b ∷ bs) = (is_in (base_interval b) (pos 0) ≡ true) × HaveZero bs
 
-zero_in : (b : Base) → is_sound_base b ≡ true → is_in (base_interval b) (pos 0) ≡ true
-zero_in base.Bool h = refl
-zero_in (base.Nat n) h =
-    let one : 1 ≤ n = grind (arith, nat_tests, h) in
-    let above : pos 0 ≤ℤ pos 0 = omega (arith, ints) in
-    let below : pos 0 ≤ℤ (pos n -ℤ pos 1) = omega (arith, ints, one) in
-    grind (arith, ints, above, below)
-zero_in (base.Int n) h =
-    let one : 1 ≤ n = grind (arith, nat_tests, h) in
-    let above : neg_ℤ (pos n) ≤ℤ pos 0 = omega (arith, ints, one) in
-    let below : pos 0 ≤ℤ (pos n -ℤ pos 1) = omega (arith, ints, one) in
-    grind (arith, ints, above, below)
-zero_in (base.Bv n) h =
-    let above : pos 0 ≤ℤ pos 0 = omega (arith, ints) in
-    let below : pos 0 ≤ℤ pos (2 ^ n - 1) = omega (arith, ints) in
-    grind (arith, ints, above, below)
-
 zeros_in : (n : ℕ) (b : Base) → is_sound_base b ≡ true → HaveZero (replicate n b)
 zeros_in zero b h = tt
-zeros_in (suc n) b h = (zero_in b h, zeros_in n b h)
+zeros_in (suc n) b h = (zero_in_base b h, zeros_in n b h)
 
 zeros_both : (bs cs : List Base) → HaveZero bs → HaveZero cs → HaveZero (bs ++ cs)
 zeros_both [] cs h k = k
 zeros_both (b ∷ bs) cs h k = (h.0, zeros_both bs cs h.1 k)
 
-pub both_true : (a b : Bool) → (a && b) ≡ true → (a ≡ true) × (b ≡ true)
-both_true true b h = (refl, h)
-both_true false b h = absurd (cc h)
-
 pub have_zero : (vs : Vars) → have_sound_types vs ≡ true → HaveZero (input_types vs)
 have_zero [] h = tt
 have_zero (v ∷ vs) h =
-    let both : (is_sound_type v.decl.ty ≡ true) × (have_sound_types vs ≡ true) = both_true (is_sound_type v.decl.ty) (have_sound_types vs) h in
-    let base_is : (is_sound_base v.decl.ty.base ≡ true) × (is_sound_length v.decl.ty.len ≡ true) = both_true (is_sound_base v.decl.ty.base) (is_sound_length v.decl.ty.len) both.0 in
+    let both : (is_sound_type v.decl.ty ≡ true) × (have_sound_types vs ≡ true) = and_parts (is_sound_type v.decl.ty) (have_sound_types vs) h in
+    let base_is : (is_sound_base v.decl.ty.base ≡ true) × (is_sound_length v.decl.ty.len ≡ true) = and_parts (is_sound_base v.decl.ty.base) (is_sound_length v.decl.ty.len) both.0 in
     by_flow (same_flow Input v.decl.flow) (zeros_in (count_in v) v.decl.ty.base base_is.0) (have_zero vs both.1)
   where
     by_flow : (t : Bool) → HaveZero (scalars v) → HaveZero (types_with Input vs) → HaveZero (if t then scalars v ++ types_with Input vs else types_with Input vs)

@@ -30,12 +30,12 @@ use Rattle.trace_io.specs.Trace.{Trail, Reader, coming, ReadTrace}
 use Rattle.trace_io.specs.Values.{in_range}
 use Rattle.trace_io.specs.Writing.{line_of, line_of_types, all_in_range}
 use Rattle.trace_io.specs.Story.{End, done, bad, limit, fault, by_input, elements, StoryFrom, is_done, is_bad, is_limit, is_fault, is_step, Story}
-use Rattle.trace_io.proofs.RunLemmas.{given_steps, IsIn, is_at_front, is_one_further, steps_so_far, steps_at_end, steps_at_bad, steps_at_failure}
+use Rattle.trace_io.proofs.RunLemmas.{given_steps, IsIn, is_at_front, is_one_further, steps_so_far, steps_at_end, steps_at_bad, steps_at_failure, joined_both}
 use Rattle.cell_run.specs.Machine.{AreOfTypes, Executes, MakesStep, Stands, initials, next_values, shown}
 use Rattle.cell_run.specs.Room.{IsNew, CameTo, going}
 use Rattle.cell_run.specs.Told.{status_of, Told, ToldWhole, ToldBegun, Tells}
-use Rattle.cell_run.proofs.FaultLemmas.{none_least}
 use Rattle.cell_run.proofs.InputLemmas.{AreStepsOf, HaveZero, steps_are}
+use Rattle.macro_steps.proofs.RunLemmas.{none_least}
 
 -- what is known at the start of step k
 pub record SoFar (vs : Vars) (body : Kernel) (trace : List ℕ) (most k : ℕ) (registers : List ℤ) (now : Trail) (left : Option (List ℕ)) (before after : List ℕ → Type 0) : Type 0 where
@@ -57,10 +57,6 @@ given_more (ys ∷ given) zs rest = ap (λ (l : List (Option (List ℤ))). Some 
 steps_behind : (bs : List Base) (given : List (List ℤ)) (rest : List (Option (List ℤ))) → AreStepsOf bs (given_steps given ++ rest) → AreStepsOf bs rest
 steps_behind bs [] rest h = h
 steps_behind bs (zs ∷ given) rest h = steps_behind bs given rest h.1
-
-joined_both : (ls ms : List (List ℕ)) → joined_lines (ls ++ ms) ≡ joined_lines ls ++ joined_lines ms
-joined_both [] ms = refl
-joined_both (l ∷ ls) ms = ap (λ (x : List ℕ). l ++ x) (joined_both ls ms) ∙ sym (append_assoc l (joined_lines ls) (joined_lines ms))
 
 abbrev stopped : Status → Result (Unit {0}) Status
 stopped s = Err s

@@ -17,26 +17,10 @@ use Rattle.statement_cells.specs.Meaning as meaning
 use Rattle.trace_io.specs.Inputs.{count_in, input_types, same_flow, scalars, types_with}
 use Rattle.trace_io.specs.Story.{by_input, elements}
 use Rattle.cell_run.specs.Machine.{AreOfTypes}
-use Rattle.cell_run.proofs.InputLemmas.{both_true}
+use Rattle.quartz_expr.proofs.TruthLemmas.{and_parts, and_intro}
+use Rattle.quartz_expr.proofs.RangeLemmas.{in_lies, lies_in}
 
 -- ---- numbers in intervals
-
-both : (a b : Bool) → a ≡ true → b ≡ true → (a && b) ≡ true
-both true b h k = k
-both false b h k = absurd (cc h)
-
-lies_in : (i : Interval) (z : ℤ) → is_in i z ≡ true → Lies i z
-lies_in i z h =
-    let b = both_true (int_le i.low z) (int_le z i.high) h in
-    let low : int_le i.low z ≡ true = b.0 in
-    let high : int_le z i.high ≡ true = b.1 in
-    record { above = grind (arith, ints, low); below = grind (arith, ints, high) }
-
-is_in_from : (i : Interval) (z : ℤ) → Lies i z → is_in i z ≡ true
-is_in_from i z h =
-    let above : i.low ≤ℤ z = h.above in
-    let below : z ≤ℤ i.high = h.below in
-    grind (arith, ints, above, below)
 
 range_is : (t : Ty) → is_sound_type t ≡ true → type_interval t ≡ base_interval t.base
 range_is t h = ap (λ (b : Bool). sound_or_nought b (base_interval t.base)) h
@@ -54,13 +38,13 @@ split b zero bs (z ∷ zs) h = record { long = refl; lie = tt; rest = h; whole =
 split b (suc n) bs [] h = absurd h
 split b (suc n) bs (z ∷ zs) h =
     let more : Split b n bs zs = split b n bs zs h.1 in
-    record { long = ap suc more.long; lie = (lies_in (base_interval b) z h.0, more.lie); rest = more.rest; whole = ap (λ (ys : List ℤ). z ∷ ys) more.whole }
+    record { long = ap suc more.long; lie = (in_lies (base_interval b) z h.0, more.lie); rest = more.rest; whole = ap (λ (ys : List ℤ). z ∷ ys) more.whole }
 
 joined : (b : Base) (n : ℕ) (bs : List Base) (ys zs : List ℤ) → length ys ≡ n → AllLie (base_interval b) ys → AreOfTypes bs zs → AreOfTypes (replicate n b ++ bs) (ys ++ zs)
 joined b zero bs [] zs e l h = h
 joined b zero bs (y ∷ ys) zs e l h = absurd (omega (arith, e))
 joined b (suc n) bs [] zs e l h = absurd (omega (arith, e))
-joined b (suc n) bs (y ∷ ys) zs e l h = (is_in_from (base_interval b) y l.0, joined b n bs ys zs (omega (arith, e)) l.1 h)
+joined b (suc n) bs (y ∷ ys) zs e l h = (lies_in (base_interval b) y l.0, joined b n bs ys zs (omega (arith, e)) l.1 h)
 
 -- ---- inputs
 
@@ -76,7 +60,7 @@ inputs_behind : (vs : Vars) (us q : Vars) (n : ℕ) (zs : List ℤ) → vs ≡ q
 inputs_behind vs [] q n [] e a s h = tt
 inputs_behind vs [] q n (z ∷ zs) e a s h = absurd h
 inputs_behind vs (v ∷ us) q n zs e a s h =
-    let sound : (is_sound_type v.decl.ty ≡ true) × (have_sound_types us ≡ true) = both_true (is_sound_type v.decl.ty) (have_sound_types us) s in
+    let sound : (is_sound_type v.decl.ty ≡ true) × (have_sound_types us ≡ true) = and_parts (is_sound_type v.decl.ty) (have_sound_types us) s in
     by_flow v.decl.flow sound.0 (λ ys k. inputs_behind vs us (q ++ v ∷ []) (n + 1) ys (e ∙ sym (append_assoc q (v ∷ []) us)) (ap (λ (m : ℕ). m + 1) a ∙ sym (length_push q v)) sound.1 k) h
   where
     by_flow : (f : Flow) → is_sound_type v.decl.ty ≡ true → ((ys : List ℤ) → AreOfTypes (types_with Input us) ys → AreInputs vs (inputs_from (n + 1) us) (by_input us ys))
@@ -110,7 +94,7 @@ elements_of_inputs (v ∷ us) zs h = by_flow (same_flow Input v.decl.flow) (elem
 -- ---- outputs
 
 some_elements : (t : Ty) → is_sound_type t ≡ true → 1 ≤ unwrap_or t.len 1
-some_elements t h = at t.len (both_true (is_sound_base t.base) (is_sound_length t.len) h).1
+some_elements t h = at t.len (and_parts (is_sound_base t.base) (is_sound_length t.len) h).1
   where
     at : (o : Option ℕ) → is_sound_length o ≡ true → 1 ≤ unwrap_or o 1
     at None e = omega arith
@@ -123,7 +107,7 @@ pub outputs_are : (us : Vars) (n : ℕ) (ins outs : List (List ℤ)) → have_so
 outputs_are [] n ins [] s l f = tt
 outputs_are [] n ins (o ∷ outs) s l f = absurd (omega (arith, l))
 outputs_are (v ∷ us) n ins outs s l f =
-    let sound : (is_sound_type v.decl.ty ≡ true) × (have_sound_types us ≡ true) = both_true (is_sound_type v.decl.ty) (have_sound_types us) s in
+    let sound : (is_sound_type v.decl.ty ≡ true) × (have_sound_types us ≡ true) = and_parts (is_sound_type v.decl.ty) (have_sound_types us) s in
     by_flow v.decl.flow refl sound.0 (λ is os. outputs_are us (n + 1) is os sound.1) (f.counts 0 (omega arith)) (subst (λ (i : Interval). AllLie i (shown v ins outs)) (range_is v.decl.ty sound.0) (f.ranges 0 (omega arith)))
     (record { counts = λ x h. f.counts (suc x) (omega (arith, h)); ranges = λ x h. f.ranges (suc x) (omega (arith, h)) }) l
   where

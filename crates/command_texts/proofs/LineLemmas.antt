@@ -20,6 +20,7 @@ use Rattle.trace_io.specs.Writing.{all_in_range, drawn_values, generated_of, lin
 use Rattle.trace_io.proofs.GenerateLemmas.{drawn_in_range}
 use Rattle.trace_io.proofs.LinesLemmas.{closed_front, line_end_append}
 use Rattle.command_texts.proofs.SmallLemmas.{AreSmall, IsSmall, base_small}
+use Rattle.quartz_expr.proofs.TruthLemmas.{and_parts}
 
 -- ---- texts without an LF and a `#`
 
@@ -114,15 +115,11 @@ both_sound : (n : ℕ) (b : Base) (bs : List Base) → is_sound_base b ≡ true 
 both_sound zero b bs h k = k
 both_sound (suc n) b bs h k = (h, both_sound n b bs h k)
 
-both_true : (a b : Bool) → (a && b) ≡ true → (a ≡ true) × (b ≡ true)
-both_true true b e = (refl, e)
-both_true false b e = absurd (cc e)
-
 pub types_sound : (f : Flow) (vs : Vars) → have_sound_types vs ≡ true → AreSoundBases (types_with f vs)
 types_sound f [] h = tt
 types_sound f (v ∷ vs) h =
-    let b = both_true (is_sound_type v.decl.ty) (have_sound_types vs) h in
-    by_test (same_flow f v.decl.flow) (both_true (is_sound_base v.decl.ty.base) (is_sound_length v.decl.ty.len) b.0).0 (types_sound f vs b.1)
+    let b = and_parts (is_sound_type v.decl.ty) (have_sound_types vs) h in
+    by_test (same_flow f v.decl.flow) (and_parts (is_sound_base v.decl.ty.base) (is_sound_length v.decl.ty.len) b.0).0 (types_sound f vs b.1)
   where
     by_test : (t : Bool) → is_sound_base v.decl.ty.base ≡ true → AreSoundBases (types_with f vs) → AreSoundBases (if t then scalars v ++ types_with f vs else types_with f vs)
     by_test true s k = both_sound (count_in v) v.decl.ty.base (types_with f vs) s k

@@ -22,6 +22,7 @@ use Rattle.quartz_expr.specs.React.{Reaction, Reactions, React, ReactEach, of_no
 use Rattle.quartz_expr.specs.Steps.{State, initial, next_stores, outputs_of, state_after}
 use Rattle.trace_io.specs.Story.{End, StoryFrom, is_done, is_bad, is_limit, is_fault, is_step, elements}
 use Rattle.trace_io.specs.Writing.{line_of}
+use Rattle.quartz_expr.proofs.TruthLemmas.{and_left}
 
 -- at most 2^32 away from 0
 abbrev pub IsSmall : ℤ → Type 0
@@ -33,10 +34,6 @@ AreSmall [] = Unit {0}
 AreSmall (z ∷ zs) = IsSmall z × AreSmall zs
 
 -- ---- values in ranges
-
-first_true : (a b : Bool) → (a && b) ≡ true → a ≡ true
-first_true true b e = refl
-first_true false b e = absurd (cc e)
 
 low_end : (b : Base) → is_sound_base b ≡ true → neg_ℤ (pos 4294967296) ≤ℤ (base_interval b).low
 low_end base.Bool h = grind (arith, ints)
@@ -83,7 +80,7 @@ type_narrow t = by_test (is_sound_type t) refl
   where
     by_test : (b : Bool) → is_sound_type t ≡ b → IsNarrow (sound_or_nought b (base_interval t.base))
     by_test true e =
-        let s : is_sound_base t.base ≡ true = first_true (is_sound_base t.base) (is_sound_length t.len) e in
+        let s : is_sound_base t.base ≡ true = and_left (is_sound_base t.base) (is_sound_length t.len) e in
         record { low = low_end t.base s; high = high_end t.base s }
     by_test false e = nought_narrow
 

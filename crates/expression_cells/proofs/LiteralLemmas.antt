@@ -10,21 +10,11 @@ use Rattle.quartz_expr.specs.Kinds.{kind, place_if}
 use Rattle.quartz_expr.specs.Value.{width_in}
 use Rattle.quartz_expr.specs.Intervals.{are_sound_bits, bound_breaks, is_sound_base, is_sound_length, is_sound_slice, is_sound_type}
 use Rattle.quartz_expr.specs.Typed.{IsTyped, have_sound_types}
-use Rattle.quartz_expr.proofs.TypingLemmas.{both_true}
 use Rattle.quartz_types.proofs.WidthLemmas.{kind_small}
 use Rattle.expression_cells.specs.Literals.{fits}
-
-both_hold : (a b : Bool) → a ≡ true → b ≡ true → (a && b) ≡ true
-both_hold true b e f = f
-both_hold false b e f = absurd (cc)
-
-kept : (b : Bool) (p : Place) → place_if (not b) p ≡ [] → b ≡ true
-kept true p e = refl
-kept false p e = absurd (cc)
-
-none_left : {A : Type 0} (xs ys : List A) → xs ++ ys ≡ [] → (xs ≡ []) × (ys ≡ [])
-none_left [] ys e = (refl, e)
-none_left (x ∷ xs) ys e = absurd (cc)
+use Rattle.quartz_expr.proofs.TruthLemmas.{and_parts, and_intro, none_left}
+use Rattle.quartz_expr.proofs.RangeLemmas.{small_length, count_small}
+use Rattle.quartz_expr.proofs.TypingLemmas.{kept}
 
 below_width : (w n : ℕ) → w ≤ 32 → n < 2 ^ w → nat_lt n (2 ^ 32) ≡ true
 below_width w n h k =
@@ -34,8 +24,8 @@ below_width w n h k =
 
 sound_bits : (w n : ℕ) → are_sound_bits w n ≡ true → nat_lt n (2 ^ 32) ≡ true
 sound_bits w n h =
-    let k = both_true (nat_le 1 w) (nat_le w 32 && nat_lt n (2 ^ w)) h in
-    let j = both_true (nat_le w 32) (nat_lt n (2 ^ w)) k.1 in
+    let k = and_parts (nat_le 1 w) (nat_le w 32 && nat_lt n (2 ^ w)) h in
+    let j = and_parts (nat_le w 32) (nat_lt n (2 ^ w)) k.1 in
     let a : w ≤ 32 = grind (arith, nat_tests, j.0) in
     let b : n < 2 ^ w = grind (arith, nat_tests, j.1) in
     below_width w n a b
@@ -46,12 +36,12 @@ is_few n w h k = let q : n < 2 ^ 32 = omega (arith, h, k) in grind (arith, nat_t
 sound_slice : (w high : ℕ) (low : Option ℕ) → w ≤ 33 → is_sound_slice w high low ≡ true → (nat_lt high (2 ^ 32) && nat_lt (unwrap_or low high) (2 ^ 32)) ≡ true
 sound_slice w high None h k =
     let b : high < w = grind (arith, nat_tests, k) in
-    both_hold _ _ (is_few high w h b) (is_few high w h b)
+    and_intro _ _ (is_few high w h b) (is_few high w h b)
 sound_slice w high (Some low) h k =
-    let j = both_true (nat_lt high w) (nat_le low high) k in
+    let j = and_parts (nat_lt high w) (nat_le low high) k in
     let b : high < w = grind (arith, nat_tests, j.0) in
     let l : low ≤ high = grind (arith, nat_tests, j.1) in
-    both_hold _ _ (is_few high w h b) (is_few low w h (omega (arith, b, l)))
+    and_intro _ _ (is_few high w h b) (is_few low w h (omega (arith, b, l)))
 
 fits_bounded : (vs : Vars) (t : Tree ℕ) → bound_breaks vs t ≡ [] → fits t ≡ true
 fits_bounded vs (truth _ _) h = refl
@@ -62,14 +52,14 @@ fits_bounded vs (element _ i _) h = fits_bounded vs i h
 fits_bounded vs (one _ a _) h = fits_bounded vs a (none_left (bound_breaks vs a) _ h).0
 fits_bounded vs (two _ a b _) h =
     let k = none_left (bound_breaks vs a) _ h in
-    both_hold _ _ (fits_bounded vs a k.0) (fits_bounded vs b (none_left (bound_breaks vs b) _ k.1).0)
+    and_intro _ _ (fits_bounded vs a k.0) (fits_bounded vs b (none_left (bound_breaks vs b) _ k.1).0)
 fits_bounded vs (choice c a b _) h =
     let k = none_left (bound_breaks vs c) _ h in
     let j = none_left (bound_breaks vs a) _ k.1 in
-    both_hold _ _ (fits_bounded vs c k.0) (both_hold _ _ (fits_bounded vs a j.0) (fits_bounded vs b j.1))
+    and_intro _ _ (fits_bounded vs c k.0) (and_intro _ _ (fits_bounded vs a j.0) (fits_bounded vs b j.1))
 fits_bounded vs (slice a high low p) h =
     let k = none_left (bound_breaks vs a) _ h in
-    both_hold _ _ (fits_bounded vs a k.0) (sound_slice (width_in (kind vs a)) high low (kind_small vs a) (kept (is_sound_slice (width_in (kind vs a)) high low) p k.1))
+    and_intro _ _ (fits_bounded vs a k.0) (sound_slice (width_in (kind vs a)) high low (kind_small vs a) (kept (is_sound_slice (width_in (kind vs a)) high low) p k.1))
 fits_bounded vs (to_nat a _) h = fits_bounded vs a h
 fits_bounded vs (to_bv a _ _ _) h = fits_bounded vs a (none_left (bound_breaks vs a) _ h).0
 fits_bounded vs (paren a _) h = fits_bounded vs a h
@@ -77,13 +67,3 @@ fits_bounded vs (paren a _) h = fits_bounded vs a h
 -- the numbers of a typed expression fit
 pub fits_typed : (vs : Vars) (t : Tree ℕ) → IsTyped vs t → fits t ≡ true
 fits_typed vs t h = fits_bounded vs t h.bounds
-
-small_length : (l : Option ℕ) → is_sound_length l ≡ true → unwrap_or l 1 ≤ 64
-small_length None h = omega arith
-small_length (Some m) h = grind (arith, nat_tests, (both_true (nat_le 1 m) (nat_le m 64) h).1)
-
--- a variable has at most 64 elements
-pub count_small : (vs : Vars) (x : ℕ) → have_sound_types vs ≡ true → count_of vs x ≤ 64
-count_small [] x h = omega arith
-count_small (v ∷ vs) zero h = small_length v.decl.ty.len (both_true (is_sound_base v.decl.ty.base) (is_sound_length v.decl.ty.len) (both_true (is_sound_type v.decl.ty) (have_sound_types vs) h).0).1
-count_small (v ∷ vs) (suc x) h = count_small vs x (both_true (is_sound_type v.decl.ty) (have_sound_types vs) h).1

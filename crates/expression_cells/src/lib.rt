@@ -3,13 +3,11 @@
 
 mod fault_test;
 mod guard;
-mod reading;
 mod testing;
 mod trees;
 mod writing;
 
 pub use fault_test::Test;
-pub use reading::reference_in;
 pub use testing::push_tests;
 pub use trees::tree_of;
 pub use writing::{fitted_tree, push_element_tests, push_range_tests, push_target_tests};

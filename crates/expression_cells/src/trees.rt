@@ -7,8 +7,7 @@ ghost use Rattle.aif_cells.specs.Tree.{bits, cat, ite, one, sel, tree, trees, tw
 ghost use Rattle.statement_cells.specs.Expressions.{bitwise_of, complement_of, element_ref, indexed, literal as plain_literal, one_of, refs_of, tree_of, two_of};
 ghost use Rattle.expression_cells.specs.Literals.{fits};
 
-use crate::reading::reference_in;
-use aif_cells::{Ref, Tree, TreeOne, TreeTwo};
+use aif_cells::{Ref, Tree, TreeOne, TreeTwo, reference_in};
 use quartz_expr::{
     ExprKind, counted_width, kind_of_bits, kind_of_choice, kind_of_element, kind_of_name,
     kind_of_number, kind_of_one, kind_of_slice, kind_of_two,

@@ -1,6 +1,5 @@
 ghost use Rattle.std.specs.Prelude.{◌≡◌, ◌++◌, IfOk, OnOk, option_map, true};
 ghost use Rattle.quartz_tree.specs.Tree.{tree as plain};
-ghost use Rattle.quartz_expr.specs.Intervals.{nought, range_of, span};
 ghost use Rattle.quartz_expr.specs.Typed.{AreSound, IsTyped};
 ghost use Rattle.aif_cells.specs.Tree.{fit, tree, two, value as reference};
 ghost use Rattle.statement_cells.specs.Expressions.{element_tests, fitted_tree, literal as plain_literal, may_leave_range, range_tests, target_tests, tree_of};
@@ -12,7 +11,7 @@ use crate::guard::Guard;
 use crate::testing::{is_inside, push_index_test, push_test, push_tests};
 use crate::trees::{fitting_tree, literal, with_two};
 use aif_cells::{Ref, Tree, TreeTwo};
-use quartz_names::{Span, type_range};
+use quartz_expr::{Span, range_in};
 use quartz_tree::{Expr, Kind, NoMemory, Place, Var};
 use quartz_types::interval;
 use statement_cells::Current;
@@ -69,28 +68,11 @@ pub fn push_element_tests(
     }
 }
 
-// 0 alone.
-fn only_zero() -> Span
-    ensures { span result.low result.high ≡ nought }
-{
-    Span { low: 0, high: 0 }
-}
-
-// The range of a variable's elements.
-fn range_of(vars: &[Var], var: u32) -> Span
-    ensures { span result.low result.high ≡ range_of vars.now var }
-{
-    match vars.get(var as usize) {
-        Some(var) => type_range(var.decl.ty),
-        None => only_zero(),
-    }
-}
-
 // The value may lie outside the target's range.
 fn may_leave_range(vars: &[Var], var: u32, value: &Expr<u32>) -> bool
     ensures { result ≡ may_leave_range vars.now var (plain value.now) }
 {
-    let range = range_of(vars, var);
+    let range = range_in(vars, var);
     !is_inside(interval(value, vars), (range.low, range.high))
 }
 
@@ -131,7 +113,7 @@ pub fn push_range_tests(
     if !may_leave_range(vars, var, value) {
         return Ok(());
     }
-    let tested = beyond(alloc, vars, copies, value, range_of(vars, var))?;
+    let tested = beyond(alloc, vars, copies, value, range_in(vars, var))?;
     push_test(
         alloc,
         vars,
@@ -168,5 +150,5 @@ pub fn fitted_tree(
     if !may_leave_range(vars, var, value) {
         return Ok(computed);
     }
-    fitted(alloc, computed, range_of(vars, var))
+    fitted(alloc, computed, range_in(vars, var))
 }

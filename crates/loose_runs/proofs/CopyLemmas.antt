@@ -15,7 +15,7 @@ use Rattle.absence_reaction.specs.declared.copy.VarCopy.{VarCopy}
 use Rattle.absence_reaction.specs.declared.copy.Shape.{Shape}
 use Rattle.absence_reaction.specs.Closing.{Built, arms_for, can_conflict, closed_copy, closed_element, closed_from, conflict_made, disagrees, has_pending, pending_made, value_tree, watched_by}
 use Rattle.absence_reaction.specs.Meaning.{AreDistinctBelow, is_among}
-use Rattle.absence_reaction.proofs.CopyMeaning.{conflict_extends, element_extends, flagged, from_extends, last_of, pended, pending_extends, flag_extends, set_longer, valued, value_there, watched_now}
+use Rattle.absence_reaction.proofs.CopyMeaning.{conflict_extends, element_extends, flagged, from_extends, last_of, pended, pending_extends, flag_extends, set_longer, valued, value_there, watched_now, not_among}
 use Rattle.absence_reaction.proofs.ElementMeaning.{last_there}
 use Rattle.statement_cells.proofs.GrowLemmas.{HasTree}
 
@@ -72,13 +72,6 @@ pending_cell p [] cs e = absurd (few e)
 pending_cell p (a ∷ arms) cs e = record { cell = length cs; named = refl; from = omega arith; tree = record { place = p; is = last_there cs _ } }
 
 -- ---- one element
-
-not_among : (n q : ℕ) (ks : List ℕ) → AreDistinctBelow n ks → n ≤ q → is_among q ks ≡ false
-not_among n q [] d h = refl
-not_among n q (k ∷ ks) d h = ap (λ b. b || is_among q ks) (above k d.0) ∙ not_among n q ks d.2 h
-  where
-    above : (j : ℕ) → j < n → (q == j) ≡ false
-    above j l = grind (arith, nat_tests, l, h)
 
 module _ (s : Shape) (c : VarCopy) (B : ℕ → Type 0) (n : ℕ) (wide : (q : ℕ) → n ≤ q → B q) where
   -- the monitors of one element, seen from later cells that keep it

@@ -32,8 +32,9 @@ use Rattle.write_conflicts.specs.Loose.{is_stored}
 use Rattle.loose_runs.proofs.AddLemmas.{Adds, AllSited, DepthsFree, EnteredFree, Among, AreCurrent, Known, Later, OutAt, OutputHere, OutputsFree, follow, sited_both, sited_later, stored_front}
 use Rattle.loose_runs.proofs.CopyLemmas.{AddedAll, CopySite, copy_sites}
 use Rattle.loose_runs.proofs.ListLemmas.{Drawn, IsQuiet, drawn_to, drawn_twice, quiet_drawn, quiet_next}
-use Rattle.loose_runs.proofs.ScopeAddLemmas.{copies_sited, copy_quiet, distinct_numbers, set_length, writes_are}
+use Rattle.loose_runs.proofs.ScopeAddLemmas.{copies_sited, copy_quiet, distinct_numbers, writes_are}
 use Rattle.loose_runs.proofs.WalkAddLemmas.{depth_adds, surface_adds}
+use Rattle.statement_cells.proofs.ScopeEnvLemmas.{length_set}
 
 -- ---- the copies at the start have number 0
 
@@ -92,7 +93,7 @@ module _ (vs : Vars) where
 
   begun_size : (xs : List ℕ) (κ : Copies) (β : Builder) → length (begun vs xs κ β).copies ≡ length κ
   begun_size [] κ β = refl
-  begun_size (x ∷ xs) κ β = begun_size xs _ (reserve vs x true β) ∙ set_length κ x (record { copy = 0; values = map ref.Cell (new_cells vs x β) })
+  begun_size (x ∷ xs) κ β = begun_size xs _ (reserve vs x true β) ∙ length_set κ x (record { copy = 0; values = map ref.Cell (new_cells vs x β) })
 
   -- what the outputs' copies leave
   record Begins (xs : List ℕ) (β γ : Builder) : Type 0 where

@@ -17,8 +17,10 @@ use Rattle.absence_reaction.specs.declared.copy.Shape.{Shape}
 use Rattle.absence_reaction.specs.Closing.{absence_of, arm_before, arms_for, disagrees, flag_of, guard_for, pending_of, value_tree}
 use Rattle.write_conflicts.specs.Clash.{indexes_differ}
 use Rattle.loose_runs.proofs.ListLemmas.{Before, Is, before_first, before_later, is_later}
-use Rattle.loose_runs.proofs.TruthLemmas.{both_first, both_second, one_of}
+use Rattle.loose_runs.proofs.TruthLemmas.{one_of}
 use Rattle.loose_runs.proofs.WayLemmas.{clashes, some_same}
+use Rattle.quartz_expr.proofs.TruthLemmas.{and_left, and_right}
+use Rattle.quartz_expr.proofs.CoherentLemmas.{same_is}
 
 -- ---- which element an action writes
 
@@ -31,18 +33,6 @@ IsAt σ j (Some r) = read σ r ≡ pos j
 pub record Writes (σ : Assignment) (j : ℕ) (a : Action) : Type 0 where
   pub acts : truth σ a.guard ≡ true
   pub at : IsAt σ j a.index
-
-same_is : (y z : ℤ) → same_value y z ≡ true → y ≡ z
-same_is (pos m) (pos n) e = ap pos (number m n e)
-  where
-    number : (m n : ℕ) → (m == n) ≡ true → m ≡ n
-    number m n e = grind (arith, nat_tests, e)
-same_is (negsuc m) (negsuc n) e = ap negsuc (number m n e)
-  where
-    number : (m n : ℕ) → (m == n) ≡ true → m ≡ n
-    number m n e = grind (arith, nat_tests, e)
-same_is (pos m) (negsuc n) e = absurd (cc)
-same_is (negsuc m) (pos n) e = absurd (cc)
 
 -- actions that write one element have no literal indexes that differ
 pub at_alike : (σ : Assignment) (j : ℕ) (x y : Option Ref) → IsAt σ j x → IsAt σ j y → indexes_differ x y ≡ true → ⊥
@@ -61,8 +51,8 @@ module _ (σ : Assignment) (j : ℕ) where
   tested g r t e h =
       let both : (truth σ g && holds (of_bool (same_value (read σ r) (pos j)))) ≡ true =
       sym (holds_of_bool (truth σ g && holds (of_bool (same_value (read σ r) (pos j))))) ∙ ap (λ u. holds (worth σ u)) (some_same e) ∙ h in (
-        both_first (truth σ g) _ both,
-        same_is (read σ r) (pos j) (sym (holds_of_bool (same_value (read σ r) (pos j))) ∙ both_second (truth σ g) _ both),
+        and_left (truth σ g) _ both,
+        same_is (read σ r) (pos j) (sym (holds_of_bool (same_value (read σ r) (pos j))) ∙ and_right (truth σ g) _ both),
       )
 
   -- where the guard for the element holds, the action writes it
@@ -109,11 +99,11 @@ module _ (σ : Assignment) (j : ℕ) where
     Disagree l = one_holds σ (map (disagrees v) (arms_for j l)) ≡ true
 
     differs_first : (t : Tree) (w : Ref) → holds (worth σ (disagrees v (t, value w))) ≡ true → holds (worth σ t) ≡ true
-    differs_first t w h = both_first (holds (worth σ t)) _ (sym (holds_of_bool _) ∙ h)
+    differs_first t w h = and_left (holds (worth σ t)) _ (sym (holds_of_bool _) ∙ h)
 
     differs_second : (t : Tree) (w : Ref) → holds (worth σ (disagrees v (t, value w))) ≡ true → read σ v ≡ read σ w → ⊥
     differs_second t w h e =
-        let unlike : not (same_value (read σ w) (read σ v)) ≡ true = sym (holds_of_bool _) ∙ both_second (holds (worth σ t)) _ (sym (holds_of_bool _) ∙ h) in
+        let unlike : not (same_value (read σ w) (read σ v)) ≡ true = sym (holds_of_bool _) ∙ and_right (holds (worth σ t)) _ (sym (holds_of_bool _) ∙ h) in
         clashes (not (same_value (read σ w) (read σ v))) (ap (λ z. not (same_value (read σ w) z)) e ∙ ap not (same_refl (read σ w))) unlike
 
     one_acts : (l : List Action) → Disagree l → One l

@@ -37,40 +37,8 @@ use Rattle.loose_runs.proofs.AddLemmas.{DepthsFree, EnteredFree, OutAt}
 use Rattle.loose_runs.proofs.EndAddLemmas.{quiet_depths, quiet_entered, quiet_outputs}
 use Rattle.loose_runs.proofs.LooseLemmas.{QuietRegisters}
 use Rattle.loose_runs.proofs.QuietLemmas.{NoFlag, outputs_free, taken_free}
-
--- ---- registers that weren't told yet take 0
-
-abbrev ZeroNexts : List Register → Type 0
-ZeroNexts [] = Unit {0}
-ZeroNexts (x ∷ rs) = (x.next ≡ zero_ref) × ZeroNexts rs
-
-zero_both : (a b : List Register) → ZeroNexts a → ZeroNexts b → ZeroNexts (a ++ b)
-zero_both [] b g h = h
-zero_both (x ∷ a) b g h = (g.0, zero_both a b g.1 h)
-
-zero_replicate : (n : ℕ) (z : ℤ) → ZeroNexts (replicate n (register_of z))
-zero_replicate zero z = tt
-zero_replicate (suc n) z = (refl, zero_replicate n z)
-
-zero_repeated : (n : ℕ) (rs : List Register) → ZeroNexts rs → ZeroNexts (repeated n rs)
-zero_repeated zero rs h = tt
-zero_repeated (suc n) rs h = zero_both rs (repeated n rs) h (zero_repeated n rs h)
-
-zero_outputs : (vs : Vars) (xs : List ℕ) → ZeroNexts (outputs_registers vs xs)
-zero_outputs vs [] = tt
-zero_outputs vs (x ∷ xs) =
-    let s : Shape = shape_in vs x in
-    zero_both (repeated (count_of vs x) (element_registers s)) (outputs_registers vs xs)
-    (zero_repeated (count_of vs x) (element_registers s) (zero_both (replicate (one_if (is_memorized s.storage)) (register_of s.start)) (replicate (one_if s.delayed + one_if s.delayed) (register_of (pos 0))) (zero_replicate (one_if (is_memorized s.storage)) s.start) (zero_replicate (one_if s.delayed + one_if s.delayed) (pos 0))))
-    (zero_outputs vs xs)
-
-zero_first : (vs : Vars) (t : Term) → ZeroNexts (first_registers vs t)
-zero_first vs t = (refl, zero_both (replicate (labels t) (register_of (pos 0))) _ (zero_replicate (labels t) (pos 0)) (zero_both (outputs_registers vs (outputs_of vs)) (replicate (registers vs t) (register_of (pos 0))) (zero_outputs vs (outputs_of vs)) (zero_replicate (registers vs t) (pos 0))))
-
-zero_next : (σ : Assignment) (rs : List Register) (r : ℕ) → ZeroNexts rs → next_of σ (slice_get rs r) ≡ pos 0
-zero_next σ [] r h = refl
-zero_next σ (x ∷ rs) zero h = ap (read σ) h.0
-zero_next σ (x ∷ rs) (suc r) h = zero_next σ rs r h.1
+use Rattle.macro_steps.proofs.NextRangeLemmas.{zero_first, zero_next}
+use Rattle.macro_steps.proofs.SoundLemmas.{scopes_start_zero}
 
 -- registers that are 0 are no flags
 zero_free : (vs : Vars) (x v : ℕ) (k : Registers) → ((r : ℕ) → v ≤ r → k r ≡ pos 0) → NoFlag vs x v k
@@ -147,34 +115,6 @@ module _ (vs : Vars) (t : Term) (s : State) (ins : List (List ℤ)) (σ : Assign
       }
 
 -- ---- at the start
-
--- what stands behind other registers
-initial_behind : (a b : List Register) (r : ℕ) → initial_registers (a ++ b) (length a + r) ≡ initial_registers b r
-initial_behind [] b r = let e : 0 + r ≡ r = omega arith in ap (initial_registers b) e
-initial_behind (x ∷ a) b r = let e : suc (length a) + r ≡ suc (length a + r) = omega arith in ap (initial_registers (x ∷ (a ++ b))) e ∙ initial_behind a b r
-
-zero_initial : (n r : ℕ) → initial_registers (replicate n (register_of (pos 0))) r ≡ pos 0
-zero_initial zero r = refl
-zero_initial (suc n) zero = refl
-zero_initial (suc n) (suc r) = zero_initial n r
-
-splits : (a b : ℕ) → b ≤ a → (m : ℕ) × (a ≡ b + m)
-splits a zero le = (a, omega arith)
-splits zero (suc b) le = absurd (omega (arith, le))
-splits (suc a) (suc b) le = let r = splits a b (omega (arith, le)) in let e = r.1 in (r.0, omega (arith, e))
-
--- registers of scopes begin with 0
-scopes_start_zero : (vs : Vars) (t : Term) (r : ℕ) → first_scope vs t ≤ r → initial_registers (first_registers vs t) r ≡ pos 0
-scopes_start_zero vs t r le =
-    let a : List Register = replicate (labels t) (register_of (pos 0)) in
-    let b : List Register = outputs_registers vs (outputs_of vs) in
-    let c : List Register = replicate (registers vs t) (register_of (pos 0)) in
-    let m = splits r (first_scope vs t) le in
-    let la : length a ≡ labels t = length_replicate (labels t) (register_of (pos 0)) in
-    let lb : length b ≡ output_registers vs (outputs_of vs) = length_outputs vs (outputs_of vs) in
-    let is = m.1 in
-    let e : r ≡ suc (length a + (length b + m.0)) = omega (arith, la, lb, is) in
-    ap (initial_registers (first_registers vs t)) e ∙ initial_behind a (b ++ c) (length b + m.0) ∙ initial_behind b c m.0 ∙ zero_initial (registers vs t) m.0
 
 module _ (vs : Vars) (k : Registers) where
   same_kept : {a b : Kept} {l m : Store} → a ∷ l ≡ b ∷ m → (a ≡ b) × (l ≡ m)

@@ -30,23 +30,13 @@ use Rattle.statement_cells.proofs.StartLemmas.{scope_start, scopes_start}
 use Rattle.statement_cells.proofs.WholeLemmas.{all_scopes_kept, depth_kept, outputs_kept, scopes_kept}
 use Rattle.aif_cells.proofs.SolutionLemmas.{there}
 use Rattle.loose_runs.proofs.AddLemmas.{DepthsFree, EnteredFree, NoFlags, OutAt, OutputsFree}
+use Rattle.macro_steps.proofs.CarryRangeLemmas.{element_inside, delayed_one}
 
 -- ---- the flags of one variable
 
 -- registers of a variable, which begin there, have no flag
 abbrev pub NoFlag : Vars → (var first : ℕ) → Registers → Type 0
 NoFlag vs x v k = (j : ℕ) → j < count_of vs x → is_delayed vs x ≡ true → holds (k (flag_of (shape_in vs x) v j)) ≡ false
-
--- those of an element are among those of the variable
-element_inside : (s : Shape) (v j n : ℕ) → j < n → register_of s v j + registers_each s ≤ v + n * registers_each s
-element_inside s v j n l =
-    let m : ℕ = registers_each s in
-    let le : (j + 1) * m ≤ n * m = mul-le-mul_right m (omega (arith, l)) in
-    let e : (j + 1) * m ≡ j * m + m = omega arith in
-    omega (arith, le, e)
-
-delayed_one : (s : Shape) → s.delayed ≡ true → one_if s.delayed ≡ 1
-delayed_one s e = ap one_if e
 
 -- it depends on the variable's registers alone
 flag_same : (vs : Vars) (x v : ℕ) (k j : Registers) → NoFlag vs x v k → ((r : ℕ) → v ≤ r → r < v + variable_registers vs x → j r ≡ k r) → NoFlag vs x v j

@@ -35,18 +35,9 @@ use Rattle.loose_runs.proofs.FaultLemmas.{all_there, least_in, raised_by}
 use Rattle.loose_runs.proofs.EndAddLemmas.{all_sited, final}
 use Rattle.loose_runs.proofs.LooseLemmas.{QuietRegisters, flagged}
 use Rattle.loose_runs.proofs.NextQuietLemmas.{depths_here, initial_quiet, next_quiet}
+use Rattle.macro_steps.proofs.RunLemmas.{next_listed, initial_listed}
 
 -- ---- registers as lists
-
-pub next_listed : (σ : Assignment) (rs : List Register) (r : ℕ) → next_registers σ rs r ≡ number_at (next_values σ rs) r
-next_listed σ [] r = refl
-next_listed σ (x ∷ rs) zero = refl
-next_listed σ (x ∷ rs) (suc r) = next_listed σ rs r
-
-pub initial_listed : (rs : List Register) (r : ℕ) → initial_registers rs r ≡ number_at (initial_values rs) r
-initial_listed [] r = refl
-initial_listed (x ∷ rs) zero = refl
-initial_listed (x ∷ rs) (suc r) = initial_listed rs r
 
 -- ---- the states that are reached
 

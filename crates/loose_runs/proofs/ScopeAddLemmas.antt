@@ -34,13 +34,9 @@ use Rattle.loose_runs.proofs.AddLemmas.{Adds, AllSited, Among, AreCurrent, Depth
 use Rattle.loose_runs.proofs.CopyLemmas.{AddedAll, AllOf, CopySite, copy_sites}
 use Rattle.loose_runs.proofs.ListLemmas.{AreOf, Drawn, IsQuiet, drawn_back, drawn_others, drawn_to, drawn_twice, quiet_drawn, quiet_first, quiet_next}
 use Rattle.loose_runs.proofs.StillLemmas.{Still, and_still, not_still, then_still}
+use Rattle.statement_cells.proofs.ScopeEnvLemmas.{length_set}
 
 -- ---- current copies
-
-pub set_length : {A : Type 0} (xs : List A) (n : ℕ) (a : A) → length (slice_set xs n a) ≡ length xs
-set_length [] n a = refl
-set_length (x ∷ xs) zero a = refl
-set_length (x ∷ xs) (suc n) a = ap suc (set_length xs n a)
 
 copy_there : (κ : Copies) (x : ℕ) (d : Current) → x < length κ → copy_of (slice_set κ x d) x ≡ d.copy
 copy_there [] x d l = absurd (omega (arith, l))
@@ -389,4 +385,4 @@ module _ (vs : Vars) (O : ℕ → ℕ → Type 0) where
       (closing κ size x less true v β inner.built _ g (depth_is x l n v (scope_registers vs n x) (resumed l n res) β inner.built some refl)).adds
 
   pub entering_size : (x : ℕ) (κ : Copies) (β : Builder) → length κ ≡ length vs → length (entering vs x κ β) ≡ length vs
-  entering_size x κ β e = set_length κ x (record { copy = copies_of x β.made; values = map ref.Cell (new_cells vs x β) }) ∙ e
+  entering_size x κ β e = length_set κ x (record { copy = copies_of x β.made; values = map ref.Cell (new_cells vs x β) }) ∙ e

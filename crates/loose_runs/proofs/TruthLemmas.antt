@@ -7,22 +7,7 @@ use Rattle.aif_cells.specs.Built.{Defined}
 use Rattle.aif_cells.specs.Solution.{IsSolution}
 use Rattle.aif_cells.proofs.WorthLemmas.{holds_of_bool}
 use Rattle.write_conflicts.specs.Must.{Must, of_input, of_register, of_cell, of_cell_tree, of_not, of_left_and, of_right_and, of_left_or, of_right_or, of_both_or, of_both_and}
-
-pub both_first : (a b : Bool) → (a && b) ≡ true → a ≡ true
-both_first true b e = refl
-both_first false b e = absurd (cc)
-
-pub both_second : (a b : Bool) → (a && b) ≡ true → b ≡ true
-both_second true b e = e
-both_second false b e = absurd (cc)
-
-neither_first : (a b : Bool) → (a || b) ≡ false → a ≡ false
-neither_first false b e = refl
-neither_first true b e = absurd (cc)
-
-neither_second : (a b : Bool) → (a || b) ≡ false → b ≡ false
-neither_second false b e = e
-neither_second true b e = absurd (cc)
+use Rattle.quartz_expr.proofs.TruthLemmas.{and_left, and_right, or_left, or_right}
 
 pub one_of : (P : Type 0) (a b : Bool) → (a || b) ≡ true → (a ≡ true → P) → (b ≡ true → P) → P
 one_of P true b e f g = f refl
@@ -43,9 +28,9 @@ module _ (cs : List Defined) (σ : Assignment) (solves : IsSolution σ cs) where
   said _ _ _ _ (of_cell c s) h = h
   said _ _ _ _ (of_cell_tree c s d r u there m) h = said d.tree s r u m (ap holds (sym (solves c d there refl)) ∙ h)
   said _ _ _ _ (of_not a s r u m) h = said a (not s) r u m (ap not (sym (holds_of_bool _) ∙ h))
-  said _ _ _ _ (of_left_and a b r u m) h = said a true r u m (both_first (is a) (is b) (sym (holds_of_bool _) ∙ h))
-  said _ _ _ _ (of_right_and a b r u m) h = said b true r u m (both_second (is a) (is b) (sym (holds_of_bool _) ∙ h))
-  said _ _ _ _ (of_left_or a b r u m) h = said a false r u m (neither_first (is a) (is b) (sym (holds_of_bool _) ∙ h))
-  said _ _ _ _ (of_right_or a b r u m) h = said b false r u m (neither_second (is a) (is b) (sym (holds_of_bool _) ∙ h))
+  said _ _ _ _ (of_left_and a b r u m) h = said a true r u m (and_left (is a) (is b) (sym (holds_of_bool _) ∙ h))
+  said _ _ _ _ (of_right_and a b r u m) h = said b true r u m (and_right (is a) (is b) (sym (holds_of_bool _) ∙ h))
+  said _ _ _ _ (of_left_or a b r u m) h = said a false r u m (or_left (is a) (is b) (sym (holds_of_bool _) ∙ h))
+  said _ _ _ _ (of_right_or a b r u m) h = said b false r u m (or_right (is a) (is b) (sym (holds_of_bool _) ∙ h))
   said _ _ _ _ (of_both_or a b r u m n) h = one_of (truth σ r ≡ u) (is a) (is b) (sym (holds_of_bool _) ∙ h) (said a true r u m) (said b true r u n)
   said _ _ _ _ (of_both_and a b r u m n) h = one_not (truth σ r ≡ u) (is a) (is b) (sym (holds_of_bool _) ∙ h) (said a false r u m) (said b false r u n)

@@ -9,6 +9,7 @@ use Rattle.statement_cells.specs.Stands.{Marks, some, AtOne, AtOneInTurn, AtOneE
 use Rattle.statement_cells.specs.Whole.{Step, one_step, paths, paths_all}
 use Rattle.statement_cells.proofs.MarkLemmas.{free_at}
 use Rattle.write_conflicts.specs.Clash.{are_apart, same_step}
+use Rattle.quartz_expr.proofs.TruthLemmas.{and_intro}
 
 -- ---- items of two lists
 
@@ -119,11 +120,6 @@ pub clashes : (b : Bool) → b ≡ false → b ≡ true → ⊥
 clashes true e f = cc
 clashes false e f = cc
 
-both_true : (a b : Bool) → a ≡ true → b ≡ true → (a && b) ≡ true
-both_true true true e f = refl
-both_true true false e f = absurd (cc)
-both_true false b e f = absurd (cc)
-
 module _ (m : Marks) where
   -- a label that is 1 is one of some
   some_at : (l n i : ℕ) → i < n → m (l + i) ≡ true → some m l n ≡ true
@@ -135,7 +131,7 @@ module _ (m : Marks) where
 
   -- not both parts have one
   mixed : (l n k i j : ℕ) → (some m l n && some m (l + n) k) ≡ false → i < n → j < k → m (l + i) ≡ true → m ((l + n) + j) ≡ true → ⊥
-  mixed l n k i j free less more e f = clashes _ free (both_true (some m l n) (some m (l + n) k) (some_at l n i less e) (some_at (l + n) k j more f))
+  mixed l n k i j free less more e f = clashes _ free (and_intro (some m l n) (some m (l + n) k) (some_at l n i less e) (some_at (l + n) k j more f))
 
   module _ (l n : ℕ) (xs ys : List (List Step)) (count : length xs ≡ n) where
     abbrev There : ℕ → List Step → Type 0
@@ -198,7 +194,7 @@ module _ (m : Marks) where
         apart : (i j : ℕ) → i < 1 → j < labels t → m (l + i) ≡ true → m ((l + 1) + j) ≡ true → ⊥
         apart i j u w e f =
             let first : l ≡ l + i = omega (arith, u) in
-            clashes _ h.0 (both_true (m l) (some m (l + 1) (labels t)) (ap m first ∙ e) (some_at (l + 1) (labels t) j w f))
+            clashes _ h.0 (and_intro (m l) (some m (l + 1) (labels t)) (ap m first ∙ e) (some_at (l + 1) (labels t) j w f))
     never_both (scope x s t) l front h p q far i j a b e f = never_both t l (one_step front false 0) h p q far i j a b e f
 
     never_in_turn : (ts : Terms) (l : ℕ) (front : List Step) (n : ℕ) → AtOneInTurn m l ts → (p q : List Step) → are_apart p q ≡ true → (i j : ℕ) → slice_get (paths_all front false n ts) i ≡ Some p → slice_get (paths_all front false n ts) j ≡ Some q → m (l + i) ≡ true → m (l + j) ≡ true → ⊥

@@ -36,7 +36,7 @@ use Rattle.macro_steps.specs.Ranges.{AllScopesLie, LieIn, ScopesLie}
 -- ---- the registers of one variable
 
 -- those of an element are among those of the variable
-element_inside : (s : Shape) (v j n : ℕ) → j < n → register_of s v j + registers_each s ≤ v + n * registers_each s
+pub element_inside : (s : Shape) (v j n : ℕ) → j < n → register_of s v j + registers_each s ≤ v + n * registers_each s
 element_inside s v j n l =
     let m : ℕ = registers_each s in
     let le : (j + 1) * m ≤ n * m = mul-le-mul_right m (omega (arith, l)) in
@@ -46,7 +46,7 @@ element_inside s v j n l =
 memorized_one : (s : Shape) → is_memorized s.storage ≡ true → one_if (is_memorized s.storage) ≡ 1
 memorized_one s e = ap one_if e
 
-delayed_one : (s : Shape) → s.delayed ≡ true → one_if s.delayed ≡ 1
+pub delayed_one : (s : Shape) → s.delayed ≡ true → one_if s.delayed ≡ 1
 delayed_one s e = ap one_if e
 
 -- what lies depends on the variable's registers alone

@@ -189,7 +189,7 @@ module _ (τ : Assignment) (cs : List Defined) where
 
 -- ---- one list of cells behind another
 
-kept_longer : (cs ds : List Defined) → Kept cs ds → length cs ≤ length ds
+pub kept_longer : (cs ds : List Defined) → Kept cs ds → length cs ≤ length ds
 kept_longer cs ds kept = at (length cs) refl
   where
     at : (n : ℕ) → length cs ≡ n → length cs ≤ length ds

@@ -14,6 +14,7 @@ use Rattle.quartz_expr.specs.Writes.{in_range}
 use Rattle.quartz_expr.specs.Terms.{Store, Term, nothing, choose, seq, loop, abort, suspend, Terms, part}
 use Rattle.quartz_expr.specs.Resolve.{resolved_store, values_of}
 use Rattle.quartz_expr.specs.React.{Met, Reaction, Reactions, sequence, after_faults, formed, stays, goes_on, beside, together, store_of, meetings, scoped, React, ReactEach, of_nothing, of_pause, of_write, of_yes, of_no, of_none, of_turn, of_stop, of_par, of_loop, of_delayed_abort, of_delayed_suspend, of_spared_abort, of_spared_suspend, of_strong_abort, of_weak_abort, of_strong_suspend, of_weak_suspend, of_scope, of_nobody, of_beside, givens}
+use Rattle.quartz_expr.proofs.LawLemmas.{givens_append, givens_meetings, resolved_length, mapped, ended_same}
 
 -- the scopes that were met take these values, each in its range, and the rest is left
 abbrev pub Fills : Vars → List Met → (values rest : List ℤ) → Type 0
@@ -25,19 +26,6 @@ Fills vs (m ∷ ms) (y ∷ ys) rest = (m.given ≡ in_range vs m.var y) × Fills
 abbrev pub GivenLie : Vars → List Met → Type 0
 GivenLie vs [] = Unit {0}
 GivenLie vs (m ∷ ms) = Lies (range_of vs m.var) m.given × GivenLie vs ms
-
-givens_append : (a b : List Met) (xs : List ℤ) → givens (a ++ b) ++ xs ≡ givens a ++ (givens b ++ xs)
-givens_append [] b xs = refl
-givens_append (m ∷ a) b xs = ap (λ l. m.given ∷ l) (givens_append a b xs)
-
-givens_meetings : (x : ℕ) (v w : List ℤ) → length v ≡ length w → givens (meetings x v w) ≡ v
-givens_meetings x [] w e = refl
-givens_meetings x (z ∷ v) [] e = absurd (omega (arith, e))
-givens_meetings x (z ∷ v) (y ∷ w) e = ap (λ l. z ∷ l) (givens_meetings x v w (omega (arith, e)))
-
-pub resolved_length : (s : Storage) (x : ℕ) (ws : List Act) (n : ℕ) (ks : Store) → length (values_of (resolved_store s x ws n ks)) ≡ length ks
-resolved_length s x ws n [] = refl
-resolved_length s x ws n (k ∷ ks) = ap suc (resolved_length s x ws (n + 1) ks)
 
 lie_split : (vs : Vars) (a b : List Met) → GivenLie vs (a ++ b) → GivenLie vs a × GivenLie vs b
 lie_split vs [] b h = (tt, h)
@@ -87,12 +75,6 @@ Same vs q r = (ys rest : List ℤ) → GivenLie vs r.met → Fills vs q.met (giv
 
 abbrev SameEach : Vars → Reactions → Reactions → Type 0
 SameEach vs q r = (ys rest : List ℤ) → GivenLie vs r.met → Fills vs q.met (givens r.met ++ ys) rest → (q ≡ r) × (ys ≡ rest)
-
-mapped : (f : Reaction → Reaction) (q r : Reaction) (xs ys : List ℤ) → (q ≡ r) × (xs ≡ ys) → (f q ≡ f r) × (xs ≡ ys)
-mapped f q r xs ys h = (ap f h.0, h.1)
-
-ended_same : (q r : Reaction) → q ≡ r → q.ended ≡ true → r.ended ≡ false → ⊥
-ended_same q r e f g = let h : q.ended ≡ r.ended = ap (λ (z : Reaction). z.ended) e in absurd (cc)
 
 mutual
   same : (vs : Vars) (env : Values) (t : Term) (q : Reaction) → React vs env t q → (r : Reaction) → React vs env t r → Same vs q r

@@ -42,23 +42,23 @@ use Rattle.macro_steps.proofs.WantedLemmas.{At', body_kept}
 
 -- ---- registers that weren't told yet take 0
 
-abbrev ZeroNexts : List Register → Type 0
+abbrev pub ZeroNexts : List Register → Type 0
 ZeroNexts [] = Unit {0}
 ZeroNexts (x ∷ rs) = (x.next ≡ zero_ref) × ZeroNexts rs
 
-zero_both : (a b : List Register) → ZeroNexts a → ZeroNexts b → ZeroNexts (a ++ b)
+pub zero_both : (a b : List Register) → ZeroNexts a → ZeroNexts b → ZeroNexts (a ++ b)
 zero_both [] b g h = h
 zero_both (x ∷ a) b g h = (g.0, zero_both a b g.1 h)
 
-zero_replicate : (n : ℕ) (z : ℤ) → ZeroNexts (replicate n (register_of z))
+pub zero_replicate : (n : ℕ) (z : ℤ) → ZeroNexts (replicate n (register_of z))
 zero_replicate zero z = tt
 zero_replicate (suc n) z = (refl, zero_replicate n z)
 
-zero_repeated : (n : ℕ) (rs : List Register) → ZeroNexts rs → ZeroNexts (repeated n rs)
+pub zero_repeated : (n : ℕ) (rs : List Register) → ZeroNexts rs → ZeroNexts (repeated n rs)
 zero_repeated zero rs h = tt
 zero_repeated (suc n) rs h = zero_both rs (repeated n rs) h (zero_repeated n rs h)
 
-zero_outputs : (vs : Vars) (xs : List ℕ) → ZeroNexts (outputs_registers vs xs)
+pub zero_outputs : (vs : Vars) (xs : List ℕ) → ZeroNexts (outputs_registers vs xs)
 zero_outputs vs [] = tt
 zero_outputs vs (x ∷ xs) =
     let s : Shape = shape_in vs x in
@@ -66,10 +66,10 @@ zero_outputs vs (x ∷ xs) =
     (zero_repeated (count_of vs x) (element_registers s) (zero_both (replicate (one_if (is_memorized s.storage)) (register_of s.start)) (replicate (one_if s.delayed + one_if s.delayed) (register_of (pos 0))) (zero_replicate (one_if (is_memorized s.storage)) s.start) (zero_replicate (one_if s.delayed + one_if s.delayed) (pos 0))))
     (zero_outputs vs xs)
 
-zero_first : (vs : Vars) (t : Term) → ZeroNexts (first_registers vs t)
+pub zero_first : (vs : Vars) (t : Term) → ZeroNexts (first_registers vs t)
 zero_first vs t = (refl, zero_both (replicate (labels t) (register_of (pos 0))) _ (zero_replicate (labels t) (pos 0)) (zero_both (outputs_registers vs (outputs_of vs)) (replicate (registers vs t) (register_of (pos 0))) (zero_outputs vs (outputs_of vs)) (zero_replicate (registers vs t) (pos 0))))
 
-zero_next : (σ : Assignment) (rs : List Register) (r : ℕ) → ZeroNexts rs → next_of σ (slice_get rs r) ≡ pos 0
+pub zero_next : (σ : Assignment) (rs : List Register) (r : ℕ) → ZeroNexts rs → next_of σ (slice_get rs r) ≡ pos 0
 zero_next σ [] r h = refl
 zero_next σ (x ∷ rs) zero h = ap (read σ) h.0
 zero_next σ (x ∷ rs) (suc r) h = zero_next σ rs r h.1

@@ -22,9 +22,9 @@ use Rattle.statement_cells.proofs.ScopeEnvLemmas.{length_map}
 use Rattle.statement_cells.proofs.ScopeGrowLemmas.{reserve_longer}
 use Rattle.statement_cells.proofs.ScopeRunLemmas.{length_kept}
 use Rattle.macro_steps.proofs.AbsentLemmas.{AllFit, fit_both}
-use Rattle.macro_steps.proofs.FillLemmas.{resolved_length}
 use Rattle.macro_steps.proofs.StoreLemmas.{OutputsIn}
 use Rattle.macro_steps.proofs.WantedLemmas.{outputs_reserved}
+use Rattle.quartz_expr.proofs.LawLemmas.{resolved_length}
 
 -- ---- the value of a cell
 

@@ -25,12 +25,12 @@ use Rattle.macro_steps.proofs.SoundLemmas.{initial_lie, sound_by}
 
 -- ---- registers as lists
 
-next_listed : (σ : Assignment) (rs : List Register) (r : ℕ) → next_registers σ rs r ≡ number_at (next_values σ rs) r
+pub next_listed : (σ : Assignment) (rs : List Register) (r : ℕ) → next_registers σ rs r ≡ number_at (next_values σ rs) r
 next_listed σ [] r = refl
 next_listed σ (x ∷ rs) zero = refl
 next_listed σ (x ∷ rs) (suc r) = next_listed σ rs r
 
-initial_listed : (rs : List Register) (r : ℕ) → initial_registers rs r ≡ number_at (initial_values rs) r
+pub initial_listed : (rs : List Register) (r : ℕ) → initial_registers rs r ≡ number_at (initial_values rs) r
 initial_listed [] r = refl
 initial_listed (x ∷ rs) zero = refl
 initial_listed (x ∷ rs) (suc r) = initial_listed rs r
@@ -45,7 +45,7 @@ some_least f (Some g) e = at (is_sooner g f) e
     at true e = cc
     at false e = cc
 
-none_least : (fs : List Fault) → least_fault fs ≡ None → fs ≡ []
+pub none_least : (fs : List Fault) → least_fault fs ≡ None → fs ≡ []
 none_least [] e = refl
 none_least (f ∷ fs) e = absurd (some_least f (least_fault fs) e)
 

@@ -91,7 +91,7 @@ splits zero (suc b) le = absurd (omega (arith, le))
 splits (suc a) (suc b) le = let r = splits a b (omega (arith, le)) in let e = r.1 in (r.0, omega (arith, e))
 
 -- registers of scopes begin with 0
-scopes_start_zero : (vs : Vars) (t : Term) (r : ℕ) → first_scope vs t ≤ r → initial_registers (first_registers vs t) r ≡ pos 0
+pub scopes_start_zero : (vs : Vars) (t : Term) (r : ℕ) → first_scope vs t ≤ r → initial_registers (first_registers vs t) r ≡ pos 0
 scopes_start_zero vs t r le =
     let a : List Register = replicate (labels t) (register_of (pos 0)) in
     let b : List Register = outputs_registers vs (outputs_of vs) in

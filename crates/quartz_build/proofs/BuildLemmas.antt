@@ -95,10 +95,10 @@ cells_built wants t b l n v k e c o w = λ m i. (good m i, parts m i)
 -- ---- loose pairs that are refused
 
 -- the scene of a module's cells is that of the module
-same_scene : (m : ModuleTree) (a : Aif) → IsAifOf m a → scene a ≡ scene_in m
+pub same_scene : (m : ModuleTree) (a : Aif) → IsAifOf m a → scene a ≡ scene_in m
 same_scene m a i = ap (λ (d : Compiled). let s : Scene = record { cells = d.cells; ways = d.paths; made = d.made } in s) i.compiled_to
 
-same_actions : (m : ModuleTree) (a : Aif) → IsAifOf m a → a.actions ≡ (compiled_of m).actions
+pub same_actions : (m : ModuleTree) (a : Aif) → IsAifOf m a → a.actions ≡ (compiled_of m).actions
 same_actions m a i = ap (λ (d : Compiled). d.actions) i.compiled_to
 
 -- the place of a pair by the numbers of its actions

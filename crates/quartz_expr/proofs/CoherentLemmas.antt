@@ -15,16 +15,13 @@ use Rattle.quartz_expr.specs.Resolve.{writes_of, first_of_all, absence, resolved
 use Rattle.quartz_expr.specs.Steps.{State, next_stores, output_conflicts, outputs_of, Macro, state_after}
 use Rattle.quartz_expr.specs.Coherent.{AllEqual, IsAgreed, AreAgreed, OutputsAgree, IsCoherent}
 use Rattle.quartz_expr.proofs.LawLemmas.{same_refl}
+use Rattle.quartz_expr.proofs.TruthLemmas.{none_left, heads}
 
-same_is : (y z : ℤ) → same_value y z ≡ true → y ≡ z
+pub same_is : (y z : ℤ) → same_value y z ≡ true → y ≡ z
 same_is (pos m) (pos n) e = let f : m ≡ n = grind (arith, nat_tests, e) in ap pos f
 same_is (pos m) (negsuc n) e = absurd (cc)
 same_is (negsuc m) (pos n) e = absurd (cc)
 same_is (negsuc m) (negsuc n) e = let f : m ≡ n = grind (arith, nat_tests, e) in ap negsuc f
-
-none_left : {A : Type 0} (xs ys : List A) → xs ++ ys ≡ [] → (xs ≡ []) × (ys ≡ [])
-none_left [] ys e = (refl, e)
-none_left (x ∷ xs) ys e = absurd (cc)
 
 no_fault : (b : Bool) (p : Place) → fault_if b Conflict p ≡ [] → b ≡ false
 no_fault true p e = absurd (cc)
@@ -82,9 +79,6 @@ sound_agrees p s k z now next e f =
     quiet (Some y) now e n = absurd (cc)
 
 -- ---- a variable
-
-heads : {A : Type 0} (a b : A) (xs ys : List A) → a ∷ xs ≡ b ∷ ys → (a ≡ b) × (xs ≡ ys)
-heads a b xs ys e = (cc, cc)
 
 joined_none : {A : Type 0} (xs ys : List A) → xs ≡ [] → ys ≡ [] → xs ++ ys ≡ []
 joined_none xs ys e f = ap₂ (λ a b. a ++ b) e f

@@ -19,11 +19,7 @@ use Rattle.quartz_expr.specs.Tick.{tick, tick_all}
 use Rattle.quartz_expr.specs.React.{Met, Reaction, Reactions, sequence, after_faults, formed, stays, goes_on, beside, together, store_of, meetings, scoped, React, ReactEach, of_nothing, of_pause, of_write, of_yes, of_no, of_none, of_turn, of_stop, of_par, of_loop, of_delayed_abort, of_delayed_suspend, of_spared_abort, of_spared_suspend, of_strong_abort, of_weak_abort, of_strong_suspend, of_weak_suspend, of_scope, of_nobody, of_beside, givens}
 use Rattle.quartz_expr.specs.Steps.{State}
 use Rattle.quartz_expr.specs.Runs.{RunsFrom, of_end, of_step, of_fault}
-
-both_true : (a b : Bool) → (a && b) ≡ true → (a ≡ true) × (b ≡ true)
-both_true true true e = (refl, refl)
-both_true true false e = absurd (cc)
-both_true false b e = absurd (cc)
+use Rattle.quartz_expr.proofs.TruthLemmas.{and_parts, and_intro, or_parts, heads}
 
 -- ---- terms without stores
 
@@ -32,7 +28,7 @@ mutual
   tick_fresh vs nothing e = refl
   tick_fresh vs pause e = refl
   tick_fresh vs (write x i v d p q) e = refl
-  tick_fresh vs (choose c a b) e = let f = both_true (is_fresh a) (is_fresh b) e in ap₂ (choose c) (tick_fresh vs a f.0) (tick_fresh vs b f.1)
+  tick_fresh vs (choose c a b) e = let f = and_parts (is_fresh a) (is_fresh b) e in ap₂ (choose c) (tick_fresh vs a f.0) (tick_fresh vs b f.1)
   tick_fresh vs (seq ts) e = ap seq (tick_fresh_all vs ts e)
   tick_fresh vs (par ts) e = ap par (tick_fresh_all vs ts e)
   tick_fresh vs (loop t c) e = ap (λ t. loop t c) (tick_fresh vs t e)
@@ -43,12 +39,7 @@ mutual
 
   tick_fresh_all : (vs : Vars) (ts : Terms) → are_fresh ts ≡ true → tick_all vs ts ≡ ts
   tick_fresh_all vs none e = refl
-  tick_fresh_all vs (part t ts) e = let f = both_true (is_fresh t) (are_fresh ts) e in ap₂ part (tick_fresh vs t f.0) (tick_fresh_all vs ts f.1)
-
-both_hold : (a b : Bool) → a ≡ true → b ≡ true → (a && b) ≡ true
-both_hold true true e f = refl
-both_hold true false e f = absurd (cc)
-both_hold false b e f = absurd (cc)
+  tick_fresh_all vs (part t ts) e = let f = and_parts (is_fresh t) (are_fresh ts) e in ap₂ part (tick_fresh vs t f.0) (tick_fresh_all vs ts f.1)
 
 fresh_guard : (is_abort weak immediate : Bool) (t : Term) (c : Tree ℕ) → is_fresh t ≡ true → is_fresh (guard_of is_abort weak immediate t c) ≡ true
 fresh_guard true weak immediate t c e = e
@@ -59,7 +50,7 @@ mutual
   statement_fresh kernel.nothing = refl
   statement_fresh kernel.pause = refl
   statement_fresh (kernel.write x i e d p q) = refl
-  statement_fresh (kernel.choose c a b) = both_hold _ _ (statement_fresh a) (statement_fresh b)
+  statement_fresh (kernel.choose c a b) = and_intro _ _ (statement_fresh a) (statement_fresh b)
   statement_fresh (kernel.seq ks) = statements_fresh ks
   statement_fresh (kernel.par ks) = statements_fresh ks
   statement_fresh (kernel.loop k c p) = statement_fresh k
@@ -68,7 +59,7 @@ mutual
 
   statements_fresh : (ks : Kernels) → are_fresh (terms_of ks) ≡ true
   statements_fresh kernel.none = refl
-  statements_fresh (kernel.part k ks) = both_hold _ _ (statement_fresh k) (statements_fresh ks)
+  statements_fresh (kernel.part k ks) = and_intro _ _ (statement_fresh k) (statements_fresh ks)
 
 -- ---- the rows backwards
 
@@ -93,10 +84,6 @@ strong_suspend_back vs env t c _ e (of_spared_suspend _ _ _ _ q f k) = absurd (c
 
 -- ---- terms that may not be instant
 
-either_false : (a b : Bool) → (a || b) ≡ false → (a ≡ false) × (b ≡ false)
-either_false true b e = absurd (cc)
-either_false false b e = (refl, e)
-
 one_false : (a b : Bool) → (a && b) ≡ false → (a ≡ false) ⊎ (b ≡ false)
 one_false true b e = inr e
 one_false false b e = inl refl
@@ -119,8 +106,8 @@ mutual
   stays_on vs env _ _ e (of_nothing _) = absurd (cc)
   stays_on vs env _ _ e (of_pause _) = refl
   stays_on vs env _ _ e (of_write _ x i v d p q) = absurd (cc)
-  stays_on vs env _ _ e (of_yes _ c a b q h k) = stays_on vs env a q (either_false (is_instant a) (is_instant b) e).0 k
-  stays_on vs env _ _ e (of_no _ c a b q h k) = stays_on vs env b q (either_false (is_instant a) (is_instant b) e).1 k
+  stays_on vs env _ _ e (of_yes _ c a b q h k) = stays_on vs env a q (or_parts (is_instant a) (is_instant b) e).0 k
+  stays_on vs env _ _ e (of_no _ c a b q h k) = stays_on vs env b q (or_parts (is_instant a) (is_instant b) e).1 k
   stays_on vs env _ _ e (of_none _) = absurd (cc)
   stays_on vs env _ _ e (of_turn _ t ts q p k f h) =
       after_turn (is_instant t) (are_instant ts) q.ended p.ended (one_false (is_instant t) (are_instant ts) e) f (λ g. stays_on vs env t q g k) (λ g. stays_on vs env (seq ts) p g h)
@@ -179,21 +166,18 @@ conflict_is s k now = at k.pending now
 
 -- ---- a reaction is one
 
-givens_append : (a b : List Met) (xs : List ℤ) → givens (a ++ b) ++ xs ≡ givens a ++ (givens b ++ xs)
+pub givens_append : (a b : List Met) (xs : List ℤ) → givens (a ++ b) ++ xs ≡ givens a ++ (givens b ++ xs)
 givens_append [] b xs = refl
 givens_append (m ∷ a) b xs = ap (λ l. m.given ∷ l) (givens_append a b xs)
 
-givens_meetings : (x : ℕ) (v w : List ℤ) → length v ≡ length w → givens (meetings x v w) ≡ v
+pub givens_meetings : (x : ℕ) (v w : List ℤ) → length v ≡ length w → givens (meetings x v w) ≡ v
 givens_meetings x [] w e = refl
 givens_meetings x (z ∷ v) [] e = absurd (omega arith)
 givens_meetings x (z ∷ v) (y ∷ w) e = ap (λ l. z ∷ l) (givens_meetings x v w (omega arith))
 
-resolved_length : (s : Storage) (x : ℕ) (ws : List Act) (n : ℕ) (ks : Store) → length (values_of (resolved_store s x ws n ks)) ≡ length ks
+pub resolved_length : (s : Storage) (x : ℕ) (ws : List Act) (n : ℕ) (ks : Store) → length (values_of (resolved_store s x ws n ks)) ≡ length ks
 resolved_length s x ws n [] = refl
 resolved_length s x ws n (k ∷ ks) = ap suc (resolved_length s x ws (n + 1) ks)
-
-heads : {A : Type 0} (a b : A) (xs ys : List A) → a ∷ xs ≡ b ∷ ys → (a ≡ b) × (xs ≡ ys)
-heads a b xs ys e = (cc, cc)
 
 same_front : (v w xs ys : List ℤ) → length v ≡ length w → v ++ xs ≡ w ++ ys → (v ≡ w) × (xs ≡ ys)
 same_front [] [] xs ys e f = (refl, f)
@@ -211,7 +195,7 @@ Same q r = (xs ys : List ℤ) → givens q.met ++ xs ≡ givens r.met ++ ys → 
 abbrev SameEach : Reactions → Reactions → Type 0
 SameEach q r = (xs ys : List ℤ) → givens q.met ++ xs ≡ givens r.met ++ ys → (q ≡ r) × (xs ≡ ys)
 
-mapped : (f : Reaction → Reaction) (q r : Reaction) (xs ys : List ℤ) → (q ≡ r) × (xs ≡ ys) → (f q ≡ f r) × (xs ≡ ys)
+pub mapped : (f : Reaction → Reaction) (q r : Reaction) (xs ys : List ℤ) → (q ≡ r) × (xs ≡ ys) → (f q ≡ f r) × (xs ≡ ys)
 mapped f q r xs ys h = (ap f h.0, h.1)
 
 split : (a a' b b' : List Met) (xs ys : List ℤ) (P Q : Type 0) → givens (a ++ b) ++ xs ≡ givens (a' ++ b') ++ ys
@@ -221,7 +205,7 @@ split a a' b b' xs ys P Q e f g =
     let k = g h.0 xs ys h.1 in
     (h.0, k.0, k.1)
 
-ended_same : (q r : Reaction) → q ≡ r → q.ended ≡ true → r.ended ≡ false → ⊥
+pub ended_same : (q r : Reaction) → q ≡ r → q.ended ≡ true → r.ended ≡ false → ⊥
 ended_same q r e f g = let h : q.ended ≡ r.ended = ap (λ (z : Reaction). z.ended) e in absurd (cc)
 
 mutual

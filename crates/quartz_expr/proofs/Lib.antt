@@ -1,3 +1,5 @@
+pub mod TruthLemmas
+pub mod RangeLemmas
 pub mod ExampleLemmas
 pub mod LeastLemmas
 pub mod OperatorLemmas

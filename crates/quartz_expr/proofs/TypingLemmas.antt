@@ -13,6 +13,7 @@ use Rattle.quartz_expr.specs.Kinds.{Kind, boolean, numeric, vector, counted, kin
 use Rattle.quartz_expr.specs.Value.{width_in}
 use Rattle.quartz_expr.specs.Intervals.{are_sound_bits, is_inside, is_small, one_interval, two_interval, is_sound_two, is_sound_slice, is_sound_target, bits_interval, interval, bound_breaks}
 use Rattle.quartz_expr.specs.Typed.{is_over, has_sound_bits}
+use Rattle.quartz_expr.proofs.TruthLemmas.{and_parts, and_intro, or_by_right, none_left}
 
 -- the operators by what they ask of their parts
 abbrev pub is_logical : Binary → Bool
@@ -81,31 +82,13 @@ counted_is n h k = grind (arith, nat_tests)
 sound_counted : (n : ℕ) → counted n ≤ 32 → (1 ≤ n) × (n ≤ 32)
 sound_counted n h = (grind (arith, nat_tests), grind (arith, nat_tests))
 
-none_left : {A : Type 0} (xs ys : List A) → xs ++ ys ≡ [] → (xs ≡ []) × (ys ≡ [])
-none_left [] ys e = (refl, e)
-none_left (x ∷ xs) ys e = absurd (cc)
-
-not_broken : (b : Bool) (p : Place) → place_if b p ≡ [] → b ≡ false
+pub not_broken : (b : Bool) (p : Place) → place_if b p ≡ [] → b ≡ false
 not_broken true p e = absurd (cc)
 not_broken false p e = refl
 
-kept : (b : Bool) (p : Place) → place_if (not b) p ≡ [] → b ≡ true
+pub kept : (b : Bool) (p : Place) → place_if (not b) p ≡ [] → b ≡ true
 kept true p e = refl
 kept false p e = absurd (cc)
-
-pub both_true : (a b : Bool) → (a && b) ≡ true → (a ≡ true) × (b ≡ true)
-both_true true true e = (refl, refl)
-both_true true false e = absurd (cc)
-both_true false b e = absurd (cc)
-
-both_hold : (a b : Bool) → a ≡ true → b ≡ true → (a && b) ≡ true
-both_hold true true e f = refl
-both_hold true false e f = absurd (cc)
-both_hold false b e f = absurd (cc)
-
-right_holds : (a b : Bool) → b ≡ true → (a || b) ≡ true
-right_holds true b e = refl
-right_holds false b e = e
 
 had : (b : Bool) (k : Kind) (p : Place) → place_if (is_none (kind_if b k)) p ≡ [] → b ≡ true
 had true k p e = refl
@@ -143,12 +126,12 @@ module _ (vs : Vars) where
 
   logical_of : (op : Binary) (a b : Tree ℕ) (p : Place) (k l : Kind) → is_logical op ≡ true → (is_boolean k && is_boolean l) ≡ true → Typed vs a k → Typed vs b l → Typed vs (two op a b p) boolean
   logical_of op a b p k l g e t u =
-      let f = both_true (is_boolean k) (is_boolean l) e in
+      let f = and_parts (is_boolean k) (is_boolean l) e in
       of_logical op a b p g (subst (Typed vs a) (same_is k boolean f.0) t) (subst (Typed vs b) (same_is l boolean f.1) u)
 
   bitwise_of : (op : Binary) (a b : Tree ℕ) (p : Place) (k l : Kind) → is_bitwise op ≡ true → (same_kind k l && not (is_numeric k)) ≡ true → Typed vs a k → Typed vs b l → Typed vs (two op a b p) k
   bitwise_of op a b p k l g e t u =
-      let f = both_true (same_kind k l) (not (is_numeric k)) e in
+      let f = and_parts (same_kind k l) (not (is_numeric k)) e in
       of_bitwise op a b p k g (negated (is_numeric k) f.1) t (subst (Typed vs b) (sym (same_is k l f.0)) u)
     where
       negated : (b : Bool) → not b ≡ true → b ≡ false
@@ -157,14 +140,14 @@ module _ (vs : Vars) where
 
   order_of : (op : Binary) (a b : Tree ℕ) (p : Place) (k l : Kind) → is_order op ≡ true → (is_numeric k && is_numeric l) ≡ true → Typed vs a k → Typed vs b l → Typed vs (two op a b p) boolean
   order_of op a b p k l g e t u =
-      let f = both_true (is_numeric k) (is_numeric l) e in
+      let f = and_parts (is_numeric k) (is_numeric l) e in
       of_order op a b p g (subst (Typed vs a) (same_is k numeric f.0) t) (subst (Typed vs b) (same_is l numeric f.1) u)
 
   -- the kind of the whole plays no part in an arithmetic operator's interval
   arithmetic_of : (op : Binary) (a b : Tree ℕ) (p : Place) (k l : Kind) → is_arithmetic op ≡ true → (is_numeric k && is_numeric l) ≡ true → is_small (two_interval op (Some numeric) (interval vs a) (interval vs b)) ≡ true
       → Typed vs a k → Typed vs b l → Typed vs (two op a b p) numeric
   arithmetic_of op a b p k l g e s t u =
-      let f = both_true (is_numeric k) (is_numeric l) e in
+      let f = and_parts (is_numeric k) (is_numeric l) e in
       of_arithmetic op a b p g s (subst (Typed vs a) (same_is k numeric f.0) t) (subst (Typed vs b) (same_is l numeric f.1) u)
 
   cat_of : (a b : Tree ℕ) (p : Place) (k l : Kind) → (is_vector k && is_vector l) ≡ true → nat_le (width_in (two_kind Cat k l)) 32 ≡ true → Typed vs a k → Typed vs b l
@@ -205,7 +188,7 @@ module _ (vs : Vars) where
       → Typed vs a k → (m : Kind) × (slice_kind high low k ≡ Some m) × Typed vs (slice a high low p) m
   slice_of a high None p (vector n) e f t = (boolean, refl, of_bit a high n p t (grind (arith, nat_tests, f)))
   slice_of a high (Some low) p (vector n) e f t =
-      let g = both_true (nat_lt high n) (nat_le low high) f in
+      let g = and_parts (nat_lt high n) (nat_le low high) f in
       (vector (slice_width high low), refl, of_slice a high low n p t (grind (arith, nat_tests, g.0)) (grind (arith, nat_tests, g.1)))
   slice_of a high None p boolean e f t = absurd (cc)
   slice_of a high None p numeric e f t = absurd (cc)
@@ -219,8 +202,8 @@ module _ (vs : Vars) where
   typed_of (truth b p) o w e f = (boolean, refl, of_truth b p)
   typed_of (number n p) o w e f = let g = kept (nat_le n (2 ^ 62)) p f in (numeric, refl, of_number n p (grind (arith, nat_tests, g)))
   typed_of (bits w n p) o s e f =
-      let g = both_true (nat_le 1 w) (nat_le w 32 && nat_lt n (2 ^ w)) (kept (are_sound_bits w n) p f) in
-      let h = both_true (nat_le w 32) (nat_lt n (2 ^ w)) g.1 in
+      let g = and_parts (nat_le 1 w) (nat_le w 32 && nat_lt n (2 ^ w)) (kept (are_sound_bits w n) p f) in
+      let h = and_parts (nat_le w 32) (nat_lt n (2 ^ w)) g.1 in
       let low : 1 ≤ w = grind (arith, nat_tests, g.0) in
       let high : w ≤ 32 = grind (arith, nat_tests, h.0) in
       (vector w, ap (λ m. Some (vector m)) (counted_is w low high), of_bits w n p low high (grind (arith, nat_tests, h.1)))
@@ -228,10 +211,10 @@ module _ (vs : Vars) where
       let g = not_broken (is_array vs x) p e in
       (kind_of_base (base_of vs x), ap (λ b. kind_if (not b) (kind_of_base (base_of vs x))) g, of_named x p _ (grind (arith, nat_tests, o)) g refl)
   typed_of (element x i p) o s e f =
-      let h = both_true (nat_lt x (length vs)) (is_over (length vs) i) o in
+      let h = and_parts (nat_lt x (length vs)) (is_over (length vs) i) o in
       let g = none_left (place_if (not (is_array vs x && is_index (kind vs i))) p) (kind_breaks vs i) e in
       let a = typed_of i h.1 s g.1 f in
-      let b = both_true (is_array vs x) (is_index (kind vs i)) (kept _ p g.0) in
+      let b = and_parts (is_array vs x) (is_index (kind vs i)) (kept _ p g.0) in
       let n : a.0 ≡ numeric = same_is a.0 numeric (subst (λ o. is_index o ≡ true) (a.1) b.1) in
       let m : kind vs i ≡ Some numeric = a.1 ∙ ap (λ k. Some k) n in
       (kind_of_base (base_of vs x), rw (m, b.0) refl, of_element x i p _ (grind (arith, nat_tests, h.0)) b.0 (subst (Typed vs i) n a.2) refl)
@@ -244,8 +227,8 @@ module _ (vs : Vars) where
       let r = one_of op a p b.0 i j b.2 in
       (r.0, ap (λ o. kind_with o (one_kind op)) b.1 ∙ r.1, r.2)
   typed_of (two op a b p) o s e f =
-      let ov = both_true (is_over (length vs) a) (is_over (length vs) b) o in
-      let sb = both_true (has_sound_bits a) (has_sound_bits b) s in
+      let ov = and_parts (is_over (length vs) a) (is_over (length vs) b) o in
+      let sb = and_parts (has_sound_bits a) (has_sound_bits b) s in
       let g = none_left (kind_breaks vs a) _ e in
       let g' = none_left (kind_breaks vs b) _ g.1 in
       let h = none_left (bound_breaks vs a) _ f in
@@ -259,10 +242,10 @@ module _ (vs : Vars) where
       let m = two_of op a b p q.0 r.0 i j q.2 r.2 in
       (m.0, ap (λ o. w o (kind vs b)) q.1 ∙ ap (w (Some q.0)) r.1 ∙ m.1, m.2)
   typed_of (choice c a b p) o s e f =
-      let ov = both_true (is_over (length vs) c) _ o in
-      let ov' = both_true (is_over (length vs) a) (is_over (length vs) b) ov.1 in
-      let sb = both_true (has_sound_bits c) _ s in
-      let sb' = both_true (has_sound_bits a) (has_sound_bits b) sb.1 in
+      let ov = and_parts (is_over (length vs) c) _ o in
+      let ov' = and_parts (is_over (length vs) a) (is_over (length vs) b) ov.1 in
+      let sb = and_parts (has_sound_bits c) _ s in
+      let sb' = and_parts (has_sound_bits a) (has_sound_bits b) sb.1 in
       let g = none_left (kind_breaks vs c) _ e in
       let g' = none_left (kind_breaks vs a) _ g.1 in
       let g'' = none_left (kind_breaks vs b) _ g'.1 in
@@ -276,7 +259,7 @@ module _ (vs : Vars) where
       let i' = subst (λ n. place_if (is_some n && (is_some (kind vs b) && is_none (w (Some u.0) n (kind vs b)))) p ≡ []) q.1 i in
       let i'' = subst (λ n. place_if (is_some n && is_none (w (Some u.0) (Some q.0) n)) p ≡ []) r.1 i' in
       let m = had (is_boolean u.0 && same_kind q.0 r.0) q.0 p i'' in
-      let n = both_true (is_boolean u.0) (same_kind q.0 r.0) m in
+      let n = and_parts (is_boolean u.0) (same_kind q.0 r.0) m in
       let whole : w (kind vs c) (kind vs a) (kind vs b) ≡ choice_kind u.0 q.0 r.0 = ap (λ n. w n (kind vs a) (kind vs b)) u.1 ∙ ap (λ n. w (Some u.0) n (kind vs b)) q.1 ∙ ap (w (Some u.0) (Some q.0)) r.1 in
       (q.0, whole ∙ ap (λ b. kind_if b q.0) m, of_choice c a b p q.0 (subst (Typed vs c) (same_is u.0 boolean n.0) u.2) q.2 (subst (Typed vs b) (sym (same_is q.0 r.0 n.1)) r.2))
   typed_of (slice a high low p) o s e f =
@@ -301,7 +284,7 @@ module _ (vs : Vars) where
       let b = typed_of a o s g.0 h.0 in
       let i = subst (λ o. place_if (is_some o && is_none (kind_with o (λ k. kind_if (is_numeric k) (vector (counted n))))) p ≡ []) b.1 g.1 in
       let v = had (is_numeric b.0) _ p i in
-      let w = both_true (nat_le 1 n) (nat_le n 32) (kept _ q h'.0) in
+      let w = and_parts (nat_le 1 n) (nat_le n 32) (kept _ q h'.0) in
       let low : 1 ≤ n = grind (arith, nat_tests, w.0) in
       let high : n ≤ 32 = grind (arith, nat_tests, w.1) in (
         vector n,
@@ -313,9 +296,9 @@ module _ (vs : Vars) where
 -- bits that keep their bounds are written with a digit at least, and their value fits their digits
 sound_bits : (w n : ℕ) → are_sound_bits w n ≡ true → (nat_le 1 w && (nat_lt 32 w || nat_lt n (2 ^ w))) ≡ true
 sound_bits w n h =
-    let g = both_true (nat_le 1 w) (nat_le w 32 && nat_lt n (2 ^ w)) h in
-    let k = both_true (nat_le w 32) (nat_lt n (2 ^ w)) g.1 in
-    both_hold (nat_le 1 w) (nat_lt 32 w || nat_lt n (2 ^ w)) g.0 (right_holds (nat_lt 32 w) (nat_lt n (2 ^ w)) k.1)
+    let g = and_parts (nat_le 1 w) (nat_le w 32 && nat_lt n (2 ^ w)) h in
+    let k = and_parts (nat_le w 32) (nat_lt n (2 ^ w)) g.1 in
+    and_intro (nat_le 1 w) (nat_lt 32 w || nat_lt n (2 ^ w)) g.0 (or_by_right (nat_lt 32 w) (nat_lt n (2 ^ w)) k.1)
 
 -- so it is in an expression that breaks no bound
 pub written_of : (vs : Vars) (t : Tree ℕ) → bound_breaks vs t ≡ [] → has_sound_bits t ≡ true
@@ -327,11 +310,11 @@ written_of vs (element x i p) f = written_of vs i f
 written_of vs (one op a p) f = written_of vs a (none_left (bound_breaks vs a) _ f).0
 written_of vs (two op a b p) f =
     let h = none_left (bound_breaks vs a) _ f in
-    both_hold (has_sound_bits a) (has_sound_bits b) (written_of vs a h.0) (written_of vs b (none_left (bound_breaks vs b) _ h.1).0)
+    and_intro (has_sound_bits a) (has_sound_bits b) (written_of vs a h.0) (written_of vs b (none_left (bound_breaks vs b) _ h.1).0)
 written_of vs (choice c a b p) f =
     let h = none_left (bound_breaks vs c) _ f in
     let k = none_left (bound_breaks vs a) _ h.1 in
-    both_hold (has_sound_bits c) (has_sound_bits a && has_sound_bits b) (written_of vs c h.0) (both_hold (has_sound_bits a) (has_sound_bits b) (written_of vs a k.0) (written_of vs b k.1))
+    and_intro (has_sound_bits c) (has_sound_bits a && has_sound_bits b) (written_of vs c h.0) (and_intro (has_sound_bits a) (has_sound_bits b) (written_of vs a k.0) (written_of vs b k.1))
 written_of vs (slice a high low p) f = written_of vs a (none_left (bound_breaks vs a) _ f).0
 written_of vs (to_nat a p) f = written_of vs a f
 written_of vs (to_bv a n q p) f = written_of vs a (none_left (bound_breaks vs a) _ f).0

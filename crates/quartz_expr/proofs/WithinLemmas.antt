@@ -19,7 +19,9 @@ use Rattle.quartz_expr.specs.Intervals.{Interval, are_sound_bits, span, only, Li
 use Rattle.quartz_expr.specs.Typed.{Fits, AreSound, IsTyped, have_sound_types}
 use Rattle.quartz_expr.specs.Computable.{IsSmall, Suits, IsComputable}
 use Rattle.quartz_expr.proofs.OperatorLemmas.{sum_lies, difference_lies, negated_lies, product_lies, quotient_lies, remainder_lies, hull_left, hull_right, bool_lies, and_lies, or_lies, xor_lies, slice_lies, flipped_lies, cat_lies, element_lies}
-use Rattle.quartz_expr.proofs.TypingLemmas.{is_logical, is_bitwise, is_equation, is_order, is_arithmetic, Typed, of_truth, of_number, of_bits, of_named, of_element, of_not, of_neg, of_logical, of_bitwise, of_equation, of_order, of_cat, of_arithmetic, of_choice, of_bit, of_slice, of_to_nat, of_to_bv, of_paren, IsSoundKind, both_true, counted_is, typed_of}
+use Rattle.quartz_expr.proofs.TypingLemmas.{is_logical, is_bitwise, is_equation, is_order, is_arithmetic, Typed, of_truth, of_number, of_bits, of_named, of_element, of_not, of_neg, of_logical, of_bitwise, of_equation, of_order, of_cat, of_arithmetic, of_choice, of_bit, of_slice, of_to_nat, of_to_bv, of_paren, IsSoundKind, counted_is, typed_of}
+use Rattle.quartz_expr.proofs.TruthLemmas.{and_parts}
+use Rattle.quartz_expr.proofs.RangeLemmas.{base_has_zero}
 
 -- ---- kinds
 
@@ -100,26 +102,20 @@ kind_is vs _ _ (of_paren a p k t) = kind_is vs a k t
 
 sound_base_at : (vs : Vars) (x : ℕ) → have_sound_types vs ≡ true → is_sound_base (base_of vs x) ≡ true
 sound_base_at [] x e = refl
-sound_base_at (v ∷ vs) zero e = (both_true (is_sound_base v.decl.ty.base) (is_sound_length v.decl.ty.len) (both_true (is_sound_type v.decl.ty) (have_sound_types vs) e).0).0
-sound_base_at (v ∷ vs) (suc x) e = sound_base_at vs x (both_true (is_sound_type v.decl.ty) (have_sound_types vs) e).1
+sound_base_at (v ∷ vs) zero e = (and_parts (is_sound_base v.decl.ty.base) (is_sound_length v.decl.ty.len) (and_parts (is_sound_type v.decl.ty) (have_sound_types vs) e).0).0
+sound_base_at (v ∷ vs) (suc x) e = sound_base_at vs x (and_parts (is_sound_type v.decl.ty) (have_sound_types vs) e).1
 
 pub range_at : (vs : Vars) (x : ℕ) → have_sound_types vs ≡ true → x < length vs → range_of vs x ≡ base_interval (base_of vs x)
 range_at [] x e h = absurd (omega arith)
-range_at (v ∷ vs) zero e h = ap (λ b. sound_or_nought b (base_interval v.decl.ty.base)) (both_true (is_sound_type v.decl.ty) (have_sound_types vs) e).0
-range_at (v ∷ vs) (suc x) e h = range_at vs x (both_true (is_sound_type v.decl.ty) (have_sound_types vs) e).1 (omega arith)
-
-zero_lies : (b : Base) → is_sound_base b ≡ true → Lies (base_interval b) (pos 0)
-zero_lies base.Bool e = record { above = omega (arith, ints); below = omega (arith, ints) }
-zero_lies (base.Nat n) e = let h : 1 ≤ n = grind (arith, nat_tests, e) in record { above = omega (arith, ints); below = omega (arith, ints) }
-zero_lies (base.Int n) e = let h : 1 ≤ n = grind (arith, nat_tests, e) in record { above = omega (arith, ints); below = omega (arith, ints) }
-zero_lies (base.Bv n) e = record { above = omega (arith, ints); below = omega (arith, ints) }
+range_at (v ∷ vs) zero e h = ap (λ b. sound_or_nought b (base_interval v.decl.ty.base)) (and_parts (is_sound_type v.decl.ty) (have_sound_types vs) e).0
+range_at (v ∷ vs) (suc x) e h = range_at vs x (and_parts (is_sound_type v.decl.ty) (have_sound_types vs) e).1 (omega arith)
 
 sound_kind_of_base : (b : Base) → is_sound_base b ≡ true → IsSoundKind (kind_of_base b)
 sound_kind_of_base base.Bool e = tt
 sound_kind_of_base (base.Nat n) e = tt
 sound_kind_of_base (base.Int n) e = tt
 sound_kind_of_base (base.Bv n) e =
-    let f = both_true (nat_le 1 n) (nat_le n 32) e in
+    let f = and_parts (nat_le 1 n) (nat_le n 32) e in
     let low : 1 ≤ n = grind (arith, nat_tests, f.0) in
     let high : n ≤ 32 = grind (arith, nat_tests, f.1) in
     subst (λ m. IsSoundKind (vector m)) (sym (counted_is n low high)) (low, high)
@@ -129,7 +125,7 @@ base_bits base.Bool z e f h = h
 base_bits (base.Nat n) z e f h = absurd (cc)
 base_bits (base.Int n) z e f h = absurd (cc)
 base_bits (base.Bv n) z e f h =
-    let g = both_true (nat_le 1 n) (nat_le n 32) e in
+    let g = and_parts (nat_le 1 n) (nat_le n 32) e in
     subst (λ m. Lies (kind_interval (Some (vector m))) z) (sym (counted_is n (grind (arith, nat_tests, g.0)) (grind (arith, nat_tests, g.1)))) h
 
 power_small : (n : ℕ) → n ≤ 32 → 2 ^ n ≤ 2 ^ 32
@@ -138,7 +134,7 @@ power_small n h = pow-le-pow_right (omega arith) h
 -- a number that lies in a small interval is small
 small_in : (i : Interval) (z : ℤ) → is_small i ≡ true → Lies i z → IsSmall z
 small_in i z e h =
-    let f = both_true (int_le (neg_ℤ (pos (2 ^ 62))) i.low) (int_le i.high (pos (2 ^ 62))) e in
+    let f = and_parts (int_le (neg_ℤ (pos (2 ^ 62))) i.low) (int_le i.high (pos (2 ^ 62))) e in
     let low : neg_ℤ (pos (2 ^ 62)) ≤ℤ i.low = grind (arith, ints, f.0) in
     let high : i.high ≤ℤ pos (2 ^ 62) = grind (arith, ints, f.1) in
     record { from = omega (arith, ints, h.above); upto = omega (arith, ints, h.below) }
@@ -288,7 +284,7 @@ plain_value op o k i j z e f s h = of_bits_kind k _ z s (plain_lies op o k i j z
 
 inside_lies : (i j : Interval) (z : ℤ) → is_inside i j ≡ true → Lies i z → Lies j z
 inside_lies i j z e h =
-    let f = both_true (int_le j.low i.low) (int_le i.high j.high) e in
+    let f = and_parts (int_le j.low i.low) (int_le i.high j.high) e in
     let low : j.low ≤ℤ i.low = grind (arith, ints, f.0) in
     let high : i.high ≤ℤ j.high = grind (arith, ints, f.1) in
     record { above = omega (arith, ints, h.above); below = omega (arith, ints, h.below) }
@@ -317,7 +313,7 @@ module _ (vs : Vars) (env : Values) (types : have_sound_types vs ≡ true) (fits
   element_value x k n h e =
       let s = sound_base_at vs x types in
       let r = range_at vs x types h in
-      let z : Lies (range_of vs x) (pos 0) = rw r (zero_lies (base_of vs x) s) in
+      let z : Lies (range_of vs x) (pos 0) = rw r (base_has_zero (base_of vs x) s) in
       let l = element_lies (range_of vs x) (elements_in env x) n z (fits.ranges x h) in
       let m : Lies (base_interval (base_of vs x)) (element_at (elements_in env x) n) = subst (λ i. Lies i (element_at (elements_in env x) n)) r l in
       subst (λ k. Sound k (range_of vs x) (element_at (elements_in env x) n)) (sym e) (record {

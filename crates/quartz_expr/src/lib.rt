@@ -7,6 +7,7 @@ mod evaluate;
 mod fault;
 mod kind;
 mod laws;
+mod range;
 
 pub use act::{Act, Kept};
 pub use env::Env;
@@ -21,3 +22,4 @@ pub use laws::{
     not_instant_stays, reaction_is_one, runs_look_back, sequence_acts_in_order,
     statements_are_fresh, strong_preemption_does_nothing, tick_of_fresh_term,
 };
+pub use range::{Span, base_range, is_sound_base, is_sound_length, range_in, type_range};

@@ -31,19 +31,13 @@ use Rattle.quartz_names.specs.Laws.{ResolvedIsNumbered, MarksAreTargets}
 use Rattle.quartz_names.specs.Numbered.{IsResolved, Resolves, are_marked, index_is_over, is_marked, is_numbered, starts_lie, stmt_is_over, stmts_are_over}
 use Rattle.quartz_names.specs.Starts.{has_kind_of, is_within, constant_value, start_of_init, start_value}
 use Rattle.quartz_expr.specs.Intervals.{base_interval, is_in, is_sound_base, is_sound_length, sound_or_nought, type_interval}
+use Rattle.quartz_expr.proofs.TruthLemmas.{and_intro, and_left, and_right, none_left}
+use Rattle.quartz_expr.proofs.RangeLemmas.{zero_in_base, zero_in_type}
+use Rattle.quartz_names.proofs.TargetLemmas.{variables_length}
 
 -- names stand for variables below N
 abbrev Below : Scope → ℕ → Type 0
 Below sc N = (x : Word) (k : ℕ) → sc x ≡ Some k → k < N
-
-both_hold : (a b : Bool) → a ≡ true → b ≡ true → (a && b) ≡ true
-both_hold true true e f = refl
-both_hold true false e f = absurd (cc)
-both_hold false b e f = absurd (cc)
-
-pub none_left : {A : Type 0} (xs ys : List A) → xs ++ ys ≡ [] → (xs ≡ []) × (ys ≡ [])
-none_left [] ys e = (refl, e)
-none_left (x ∷ xs) ys e = absurd (cc)
 
 none_below : (N : ℕ) → Below no_names N
 none_below N x k e = absurd (cc)
@@ -74,16 +68,16 @@ module _ (N : ℕ) where
   renamed_over sc (named x p) h e = number_below sc x p h e
   renamed_over sc (element x i p) h e =
       let g = none_left (undeclared_at sc x p) (undeclared sc i) e in
-      both_hold (nat_lt (number_in sc x) N) (is_over N (renamed sc i)) (number_below sc x p h g.0) (renamed_over sc i h g.1)
+      and_intro (nat_lt (number_in sc x) N) (is_over N (renamed sc i)) (number_below sc x p h g.0) (renamed_over sc i h g.1)
   renamed_over sc (one op a p) h e = renamed_over sc a h e
   renamed_over sc (two op a b p) h e =
       let g = none_left (undeclared sc a) (undeclared sc b) e in
-      both_hold (is_over N (renamed sc a)) (is_over N (renamed sc b)) (renamed_over sc a h g.0) (renamed_over sc b h g.1)
+      and_intro (is_over N (renamed sc a)) (is_over N (renamed sc b)) (renamed_over sc a h g.0) (renamed_over sc b h g.1)
   renamed_over sc (choice c a b p) h e =
       let f = none_left (undeclared sc c) _ e in
       let g = none_left (undeclared sc a) (undeclared sc b) f.1 in
-      both_hold (is_over N (renamed sc c)) (is_over N (renamed sc a) && is_over N (renamed sc b)) (renamed_over sc c h f.0)
-      (both_hold (is_over N (renamed sc a)) (is_over N (renamed sc b)) (renamed_over sc a h g.0) (renamed_over sc b h g.1))
+      and_intro (is_over N (renamed sc c)) (is_over N (renamed sc a) && is_over N (renamed sc b)) (renamed_over sc c h f.0)
+      (and_intro (is_over N (renamed sc a)) (is_over N (renamed sc b)) (renamed_over sc a h g.0) (renamed_over sc b h g.1))
   renamed_over sc (slice a high low p) h e = renamed_over sc a h e
   renamed_over sc (to_nat a p) h e = renamed_over sc a h e
   renamed_over sc (to_bv a w q p) h e = renamed_over sc a h e
@@ -97,7 +91,7 @@ module _ (N : ℕ) where
   around_over n zero k le h = h
   around_over n (suc count) k le h =
       let first : nat_lt n N ≡ true = grind (arith, nat_tests, le) in
-      both_hold (nat_lt n N) (stmt_is_over N (around (n + 1) count k)) first (around_over (n + 1) count k (omega arith) h)
+      and_intro (nat_lt n N) (stmt_is_over N (around (n + 1) count k)) first (around_over (n + 1) count k (omega arith) h)
 
   joined_over : (ks : Kernels) → stmts_are_over N ks ≡ true → stmt_is_over N (joined ks) ≡ true
   joined_over kernel.none h = h
@@ -113,8 +107,8 @@ module _ (N : ℕ) where
   write_over sc g e h b =
       let f = none_left (undeclared_in_goal sc g) (undeclared sc e) b in
       let k = none_left (undeclared_at sc g.name g.place) (undeclared_in_index sc g.index) f.0 in
-      both_hold (nat_lt (number_in sc g.name) N) _ (number_below sc g.name g.place h k.0)
-      (both_hold (index_is_over N (option_map (renamed sc) g.index)) (is_over N (renamed sc e)) (index_over sc g.index h k.1) (renamed_over sc e h f.1))
+      and_intro (nat_lt (number_in sc g.name) N) _ (number_below sc g.name g.place h k.0)
+      (and_intro (index_is_over N (option_map (renamed sc) g.index)) (is_over N (renamed sc e)) (index_over sc g.index h k.1) (renamed_over sc e h f.1))
 
   mutual
     numbered_over : (w : Written) (sc : Scope) (n : ℕ) → Below sc N → n + length (locals w) ≤ N → name_breaks sc n w ≡ [] → stmt_is_over N (numbered sc n w) ≡ true
@@ -135,20 +129,20 @@ module _ (N : ℕ) where
         let second : (n + length (locals v)) + length (locals w) ≤ N = omega (arith, le, size) in
         let f = none_left (undeclared sc c) _ b in
         let g = none_left (name_breaks sc n v) _ f.1 in
-        both_hold (is_over N (renamed sc c)) _ (renamed_over sc c h f.0)
-        (both_hold (stmt_is_over N (numbered sc n v)) _ (numbered_over v sc n h first g.0) (numbered_over w sc (n + length (locals v)) h second g.1))
+        and_intro (is_over N (renamed sc c)) _ (renamed_over sc c h f.0)
+        (and_intro (stmt_is_over N (numbered sc n v)) _ (numbered_over v sc n h first g.0) (numbered_over w sc (n + length (locals v)) h second g.1))
     numbered_over (choose_one c v) sc n h le b =
         let f = none_left (undeclared sc c) _ b in
-        both_hold (is_over N (renamed sc c)) _ (renamed_over sc c h f.0) (both_hold (stmt_is_over N (numbered sc n v)) true (numbered_over v sc n h le f.1) refl)
+        and_intro (is_over N (renamed sc c)) _ (renamed_over sc c h f.0) (and_intro (stmt_is_over N (numbered sc n v)) true (numbered_over v sc n h le f.1) refl)
     numbered_over (loop v p) sc n h le b = refl
     numbered_over (always v p) sc n h le b = refl
     numbered_over (while c v p) sc n h le b = refl
     numbered_over (do_while v c p) sc n h le b =
         let f = none_left (name_breaks sc n v) _ b in
-        both_hold (stmt_is_over N (numbered sc n v)) _ (numbered_over v sc n h le f.0) (renamed_over sc c h f.1)
+        and_intro (stmt_is_over N (numbered sc n v)) _ (numbered_over v sc n h le f.0) (renamed_over sc c h f.1)
     numbered_over (guard abort weak immediate v c) sc n h le b =
         let f = none_left (name_breaks sc n v) _ b in
-        both_hold (stmt_is_over N (numbered sc n v)) _ (numbered_over v sc n h le f.0) (renamed_over sc c h f.1)
+        and_intro (stmt_is_over N (numbered sc n v)) _ (numbered_over v sc n h le f.0) (renamed_over sc c h f.1)
     numbered_over (call m args p) sc n h le b = refl
 
     branch_over : (s : Branch) (sc : Scope) (n : ℕ) → Below sc N → n + length (locals_of_branch s) ≤ N → name_breaks_in_branch sc n s ≡ [] → stmts_are_over N (numbered_branch sc n s) ≡ true
@@ -158,7 +152,7 @@ module _ (N : ℕ) where
         let first : n + length (locals w) ≤ N = omega (arith, le, size) in
         let second : (n + length (locals w)) + length (locals_of_branch s) ≤ N = omega (arith, le, size) in
         let f = none_left (name_breaks sc n w) _ b in
-        both_hold (stmt_is_over N (numbered sc n w)) _ (numbered_over w sc n h first f.0) (branch_over s sc (n + length (locals w)) h second f.1)
+        and_intro (stmt_is_over N (numbered sc n w)) _ (numbered_over w sc n h first f.0) (branch_over s sc (n + length (locals w)) h second f.1)
 
     branches_over : (bs : Branches) (sc : Scope) (n : ℕ) → Below sc N → n + length (locals_of_branches bs) ≤ N → name_breaks_in_branches sc n bs ≡ [] → stmts_are_over N (numbered_branches sc n bs) ≡ true
     branches_over none sc n h le b = refl
@@ -167,11 +161,7 @@ module _ (N : ℕ) where
         let first : n + length (locals_of_branch s) ≤ N = omega (arith, le, size) in
         let second : (n + length (locals_of_branch s)) + length (locals_of_branches bs) ≤ N = omega (arith, le, size) in
         let f = none_left (name_breaks_in_branch sc n s) _ b in
-        both_hold (stmts_are_over N (numbered_branch sc n s)) _ (branch_over s sc n h first f.0) (branches_over bs sc (n + length (locals_of_branch s)) h second f.1)
-
-variables_count : (targets : List ℕ) (n : ℕ) (ds : List Decl) → length (variables_from targets n ds) ≡ length ds
-variables_count targets n [] = refl
-variables_count targets n (d ∷ ds) = ap suc (variables_count targets (n + 1) ds)
+        and_intro (stmts_are_over N (numbered_branch sc n s)) _ (branch_over s sc n h first f.0) (branches_over bs sc (n + length (locals_of_branch s)) h second f.1)
 
 pub no_place : (ps : List Place) → least_place ps ≡ None → ps ≡ []
 no_place [] e = refl
@@ -189,7 +179,7 @@ body_names_variables : (m : ModuleTree) → least_place (module_name_breaks m) �
 body_names_variables m e =
     let clean = no_place (module_name_breaks m) e in
     let body = (none_left (repeated m.params) _ clean).1 in
-    let count : length (resolved_vars m) ≡ length m.params + length (locals (expanded m.body)) = variables_count (next_targets (resolved_body m)) 0 (declarations m) ∙ length-append m.params (locals (expanded m.body)) in
+    let count : length (resolved_vars m) ≡ length m.params + length (locals (expanded m.body)) = variables_length (next_targets (resolved_body m)) 0 (declarations m) ∙ length-append m.params (locals (expanded m.body)) in
     let N = length (resolved_vars m) in
     let head : 0 + length m.params ≤ N = omega (arith, count) in
     let all : length m.params + length (locals (expanded m.body)) ≤ N = omega (arith, count) in
@@ -197,39 +187,25 @@ body_names_variables m e =
 
 -- ---- start values
 
-nought_in_base : (b : Base) → is_sound_base b ≡ true → is_in (base_interval b) (pos 0) ≡ true
-nought_in_base base.Bool e = refl
-nought_in_base (base.Nat n) e = grind (arith, ints, nat_tests, e)
-nought_in_base (base.Int n) e = grind (arith, ints, nat_tests, e)
-nought_in_base (base.Bv n) e = grind (arith, ints, nat_tests)
-
-nought_in : (t : Ty) → is_in (type_interval t) (pos 0) ≡ true
-nought_in t = either (is_sound_base t.base) (is_sound_length t.len) refl
-  where
-    either : (a b : Bool) → is_sound_base t.base ≡ a → is_in (sound_or_nought (a && b) (base_interval t.base)) (pos 0) ≡ true
-    either true true e = nought_in_base t.base e
-    either true false e = refl
-    either false b e = refl
-
 start_lies : (d : Decl) → is_in (type_interval d.ty) (start_value d) ≡ true
 start_lies d = of_init d.init
   where
     of_constant : (a b : Bool) (z : ℤ) → (b ≡ true → is_in (type_interval d.ty) z ≡ true) → is_in (type_interval d.ty) (if a && b then z else pos 0) ≡ true
     of_constant true true z f = f refl
-    of_constant true false z f = nought_in d.ty
-    of_constant false b z f = nought_in d.ty
+    of_constant true false z f = zero_in_type d.ty
+    of_constant false b z f = zero_in_type d.ty
 
     second : (a b : Bool) → (a && b) ≡ true → b ≡ true
     second true b h = h
     second false b h = absurd (cc)
 
     of_init : (i : Option Init) → is_in (type_interval d.ty) (start_of_init d.ty i) ≡ true
-    of_init None = nought_in d.ty
+    of_init None = zero_in_type d.ty
     of_init (Some i) = of_constant (has_kind_of d.ty i.value) (is_within d.ty i.value) (constant_value i.value) (second _ (is_in (type_interval d.ty) (constant_value i.value)))
 
 all_starts_lie : (targets : List ℕ) (n : ℕ) (ds : List Decl) → starts_lie (variables_from targets n ds) ≡ true
 all_starts_lie targets n [] = refl
-all_starts_lie targets n (d ∷ ds) = both_hold (is_in (type_interval d.ty) (start_value d)) _ (start_lies d) (all_starts_lie targets (n + 1) ds)
+all_starts_lie targets n (d ∷ ds) = and_intro (is_in (type_interval d.ty) (start_value d)) _ (start_lies d) (all_starts_lie targets (n + 1) ds)
 
 -- ---- targets of `next`
 
@@ -244,14 +220,6 @@ flag_is targets ds x h = let e : 0 + x ≡ x = omega arith in flag_at targets 0 
 either_among : {P : Type 0} → (a b : Bool) → (a || b) ≡ true → (a ≡ true → P) → (b ≡ true → P) → P
 either_among true b h f g = f refl
 either_among false b h f g = g h
-
-left_of_both : (a b : Bool) → (a && b) ≡ true → a ≡ true
-left_of_both true b h = refl
-left_of_both false b h = absurd (cc)
-
-right_of_both : (a b : Bool) → (a && b) ≡ true → b ≡ true
-right_of_both true b h = h
-right_of_both false b h = absurd (cc)
 
 among_both : (xs ys : List ℕ) (x : ℕ) → is_among (xs ++ ys) x ≡ (is_among xs x || is_among ys x)
 among_both [] ys x = refl
@@ -272,26 +240,26 @@ module _ (N : ℕ) where
     targets_below : (k : Kernel) → stmt_is_over N k ≡ true → (x : ℕ) → is_among (next_targets k) x ≡ true → x < N
     targets_below kernel.nothing h x e = absurd (cc)
     targets_below kernel.pause h x e = absurd (cc)
-    targets_below (kernel.write y i v true p q) h x e = one_below y x (left_of_both _ _ h) e
+    targets_below (kernel.write y i v true p q) h x e = one_below y x (and_left _ _ h) e
     targets_below (kernel.write y i v false p q) h x e = absurd (cc)
     targets_below (kernel.choose c a b) h x e =
-        let r = right_of_both (is_over N c) _ h in
-        two_below (next_targets a) (next_targets b) x (targets_below a (left_of_both _ _ r) x) (targets_below b (right_of_both (stmt_is_over N a) _ r) x) e
+        let r = and_right (is_over N c) _ h in
+        two_below (next_targets a) (next_targets b) x (targets_below a (and_left _ _ r) x) (targets_below b (and_right (stmt_is_over N a) _ r) x) e
     targets_below (kernel.seq ks) h x e = all_targets_below ks h x e
     targets_below (kernel.par ks) h x e = all_targets_below ks h x e
-    targets_below (kernel.loop k c p) h x e = targets_below k (left_of_both _ _ h) x e
-    targets_below (kernel.guard a w i k c) h x e = targets_below k (left_of_both _ _ h) x e
-    targets_below (kernel.local y k) h x e = targets_below k (right_of_both (nat_lt y N) _ h) x e
+    targets_below (kernel.loop k c p) h x e = targets_below k (and_left _ _ h) x e
+    targets_below (kernel.guard a w i k c) h x e = targets_below k (and_left _ _ h) x e
+    targets_below (kernel.local y k) h x e = targets_below k (and_right (nat_lt y N) _ h) x e
 
     all_targets_below : (ks : Kernels) → stmts_are_over N ks ≡ true → (x : ℕ) → is_among (all_next_targets ks) x ≡ true → x < N
     all_targets_below kernel.none h x e = absurd (cc)
     all_targets_below (kernel.part k ks) h x e =
-        two_below (next_targets k) (all_next_targets ks) x (targets_below k (left_of_both _ _ h) x) (all_targets_below ks (right_of_both (stmt_is_over N k) _ h) x) e
+        two_below (next_targets k) (all_next_targets ks) x (targets_below k (and_left _ _ h) x) (all_targets_below ks (and_right (stmt_is_over N k) _ h) x) e
 
 marked_all : (targets : List ℕ) (ds : List Decl) (xs : List ℕ) → ((x : ℕ) → is_among xs x ≡ true → is_among targets x ≡ true) → ((x : ℕ) → is_among xs x ≡ true → x < length ds) → are_marked (variables_from targets 0 ds) xs ≡ true
 marked_all targets ds [] f g = refl
 marked_all targets ds (x ∷ xs) f g =
-    both_hold (is_marked (variables_from targets 0 ds) x) _ (flag_is targets ds x (g x (first xs)) ∙ f x (first xs))
+    and_intro (is_marked (variables_from targets 0 ds) x) _ (flag_is targets ds x (g x (first xs)) ∙ f x (first xs))
     (marked_all targets ds xs (λ y h. f y (later y h)) (λ y h. g y (later y h)))
   where
     first : (ys : List ℕ) → ((x == x) || is_among ys x) ≡ true
@@ -310,10 +278,10 @@ numbered_well m e few =
     let N = length (resolved_vars m) in
     let targets = next_targets (resolved_body m) in
     let over = body_names_variables m e in
-    let count : length (resolved_vars m) ≡ length (declarations m) = variables_count targets 0 (declarations m) in
+    let count : length (resolved_vars m) ≡ length (declarations m) = variables_length targets 0 (declarations m) in
     let small : nat_lt N (2 ^ 32) ≡ true = grind (arith, nat_tests, few) in
-    both_hold (nat_lt N (2 ^ 32)) _ small (both_hold (starts_lie (resolved_vars m)) _ (all_starts_lie targets 0 (declarations m))
-    (both_hold (stmt_is_over N (resolved_body m)) _ over (marked_all targets (declarations m) targets (λ x h. h) (λ x h. subst (λ n. x < n) count (targets_below N (resolved_body m) over x h)))))
+    and_intro (nat_lt N (2 ^ 32)) _ small (and_intro (starts_lie (resolved_vars m)) _ (all_starts_lie targets 0 (declarations m))
+    (and_intro (stmt_is_over N (resolved_body m)) _ over (marked_all targets (declarations m) targets (λ x h. h) (λ x h. subst (λ n. x < n) count (targets_below N (resolved_body m) over x h)))))
 
 -- ---- laws
 
@@ -335,7 +303,7 @@ marked_from r m h x less =
     let ds = declarations (module_tree m) in
     let targets = next_targets (resolved_body (module_tree m)) in
     let short : x < length (resolved_vars (module_tree m)) = subst (λ vs. x < length vs) h.vars less in
-    ap (λ vs. is_marked vs x) h.vars ∙ flag_is targets ds x (subst (λ n. x < n) (variables_count targets 0 ds) short) ∙ ap (λ k. is_among (next_targets k) x) (sym h.body)
+    ap (λ vs. is_marked vs x) h.vars ∙ flag_is targets ds x (subst (λ n. x < n) (variables_length targets 0 ds) short) ∙ ap (λ k. is_among (next_targets k) x) (sym h.body)
 
 pub marks_are_targets : MarksAreTargets
 marks_are_targets r some x less = ∥∥₁_elim some (Bool-set _ _) (λ h. marked_from r h.0 h.1 x less)

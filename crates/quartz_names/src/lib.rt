@@ -15,9 +15,7 @@ mod target;
 mod walk;
 
 pub use call::has_call;
-pub use constant::{
-    Span, has_kind_of, is_sound_base, is_sound_length, is_within, start_value, type_range,
-};
+pub use constant::{has_kind_of, is_within, start_value};
 pub use fault::NamesFault;
 pub use law::{marks_are_targets, resolved_is_numbered};
 pub use place::{lesser_place, place_if};

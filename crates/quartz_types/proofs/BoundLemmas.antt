@@ -7,10 +7,11 @@ use Rattle.quartz_tree.specs.declared.declare.Base.{Base}
 use Rattle.quartz_tree.specs.declared.declare.Base.TheVariants as base
 use Rattle.quartz_tree.specs.declared.declare.Ty.{Ty}
 use Rattle.quartz_expr.specs.Intervals.{Interval, are_sound_bits, base_interval, is_sound_base, is_sound_length, is_sound_type, sound_or_nought, type_interval}
-use Rattle.quartz_expr.proofs.TypingLemmas.{both_true}
+use Rattle.quartz_expr.proofs.TruthLemmas.{and_parts}
+use Rattle.quartz_expr.proofs.RangeLemmas.{base_ordered}
 
 one_at_least : (n m : ℕ) → (nat_le 1 n && nat_le n m) ≡ true → 1 ≤ n
-one_at_least n m h = grind (arith, nat_tests, (both_true (nat_le 1 n) (nat_le n m) h).0)
+one_at_least n m h = grind (arith, nat_tests, (and_parts (nat_le 1 n) (nat_le n m) h).0)
 
 from_nought : (n : ℕ) → 1 ≤ n → pos 0 ≤ℤ (pos n -ℤ pos 1)
 from_nought n h = omega (arith, ints, h)
@@ -21,26 +22,20 @@ around_nought n h = omega (arith, ints, h)
 no_less : (n : ℕ) → pos 0 ≤ℤ pos n
 no_less n = omega (arith, ints)
 
-base_ordered : (b : Base) → is_sound_base b ≡ true → (base_interval b).low ≤ℤ (base_interval b).high
-base_ordered base.Bool h = no_less 1
-base_ordered (base.Nat n) h = from_nought n (one_at_least n (2 ^ 31) h)
-base_ordered (base.Int n) h = around_nought n (one_at_least n (2 ^ 31) h)
-base_ordered (base.Bv n) h = no_less (2 ^ n - 1)
-
 ordered_if : (b : Bool) (i : Interval) → (b ≡ true → i.low ≤ℤ i.high) → (sound_or_nought b i).low ≤ℤ (sound_or_nought b i).high
 ordered_if true i h = h refl
 ordered_if false i h = no_less 0
 
 pub type_ordered : (t : Ty) → (type_interval t).low ≤ℤ (type_interval t).high
-type_ordered t = ordered_if (is_sound_type t) (base_interval t.base) (λ h. base_ordered t.base (both_true (is_sound_base t.base) (is_sound_length t.len) h).0)
+type_ordered t = ordered_if (is_sound_type t) (base_interval t.base) (λ h. base_ordered t.base (and_parts (is_sound_base t.base) (is_sound_length t.len) h).0)
 
 below_all : (w n : ℕ) → w ≤ 32 → n < 2 ^ w → n < 2 ^ 32
 below_all w n h k = let p : 2 ^ w ≤ 2 ^ 32 = pow-le-pow_right (omega arith) h in omega (arith, k, p)
 
 pub bits_below : (w n : ℕ) → are_sound_bits w n ≡ true → n ≤ 2 ^ 62
 bits_below w n h =
-    let k = both_true (nat_le 1 w) (nat_le w 32 && nat_lt n (2 ^ w)) h in
-    let j = both_true (nat_le w 32) (nat_lt n (2 ^ w)) k.1 in
+    let k = and_parts (nat_le 1 w) (nat_le w 32 && nat_lt n (2 ^ w)) h in
+    let j = and_parts (nat_le w 32) (nat_lt n (2 ^ w)) k.1 in
     let small : w ≤ 32 = grind (arith, nat_tests, j.0) in
     let less : n < 2 ^ w = grind (arith, nat_tests, j.1) in
     let g : n < 2 ^ 32 = below_all w n small less in

@@ -3,7 +3,8 @@ ghost use Rattle.quartz_expr.specs.Intervals.{type_breaks};
 ghost use Rattle.quartz_tree.specs.Least.{least_place};
 ghost use Rattle.quartz_types.specs.Rules.{declared_bound_breaks, init_bound_breaks};
 
-use quartz_names::{is_sound_base, is_sound_length, is_within, lesser_place, place_if};
+use quartz_expr::{is_sound_base, is_sound_length};
+use quartz_names::{is_within, lesser_place, place_if};
 use quartz_tree::{Decl, Init, Place, Ty, Var};
 
 // The least place at which a declared type breaks its bounds.

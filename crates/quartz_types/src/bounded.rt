@@ -11,9 +11,9 @@ use crate::range::{
 };
 use quartz_expr::{
     ExprKind, counted_width, kind_of_bits, kind_of_choice, kind_of_element, kind_of_name,
-    kind_of_number, kind_of_one, kind_of_slice, kind_of_two,
+    kind_of_number, kind_of_one, kind_of_slice, kind_of_two, type_range,
 };
-use quartz_names::{lesser_place, place_if, type_range};
+use quartz_names::{lesser_place, place_if};
 use quartz_tree::{Binary, Expr, Place, Ty, Unary, Var};
 
 /// An interval, and whether the operator that has it keeps its bounds.

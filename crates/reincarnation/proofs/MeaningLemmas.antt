@@ -86,7 +86,7 @@ with_same [] r n h = absurd (omega (arith, h))
 with_same (x ∷ xs) zero n h = refl
 with_same (x ∷ xs) (suc r) n h = with_same xs r n (omega (arith, h))
 
-with_other : (rs : List Register) (r : ℕ) (n : Ref) (q : ℕ) → (q < r) ⊎ (r + 1 ≤ q) → slice_get (with_next rs r n) q ≡ slice_get rs q
+pub with_other : (rs : List Register) (r : ℕ) (n : Ref) (q : ℕ) → (q < r) ⊎ (r + 1 ≤ q) → slice_get (with_next rs r n) q ≡ slice_get rs q
 with_other [] r n q h = refl
 with_other (x ∷ xs) zero n zero h = absurd (elim h [ inl a ↦ omega (arith, a) | inr b ↦ omega (arith, b) ])
 with_other (x ∷ xs) zero n (suc q) h = refl
@@ -318,15 +318,15 @@ carrying_names_earlier v es depth first before hs h =
 
 -- ---- a new copy
 
-copied : (n k : ℕ) (x c : Defined) → slice_get (replicate n x) k ≡ Some c → x ≡ c
+pub copied : (n k : ℕ) (x c : Defined) → slice_get (replicate n x) k ≡ Some c → x ≡ c
 copied zero k x c e = absurd (cc)
 copied (suc n) zero x c e = cc
 copied (suc n) (suc k) x c e = copied n k x c e
 
-behind : (xs : List Defined) (n k : ℕ) (x c : Defined) → length xs ≤ k → slice_get (xs ++ replicate n x) k ≡ Some c → x ≡ c
-behind [] n k x c le e = copied n k x c e
-behind (y ∷ xs) n zero x c le e = absurd (omega (arith, le))
-behind (y ∷ xs) n (suc k) x c le e = behind xs n k x c (omega (arith, le)) e
+pub last_is : (xs : List Defined) (n k : ℕ) (x c : Defined) → length xs ≤ k → slice_get (xs ++ replicate n x) k ≡ Some c → x ≡ c
+last_is [] n k x c le e = copied n k x c e
+last_is (y ∷ xs) n zero x c le e = absurd (omega (arith, le))
+last_is (y ∷ xs) n (suc k) x c le e = last_is xs n k x c (omega (arith, le)) e
 
 no_contents : (d : ℕ) → Contains [] d → ⊥
 no_contents d h = omega (arith, h.1)
@@ -340,5 +340,5 @@ entering_reserves before var stored v copy values after entered =
     record {
       cells = subst (λ (ys : List Defined). Extends none_free xs ys) (sym entered.cells) (appended xs (replicate n x));
       count = ap length entered.cells ∙ many;
-      free = λ k d le dep. no_contents d (subst (λ (c : Defined). Contains (cells_in c.tree) d) (sym (behind xs n k x dep.0 le (sym (ap (λ (ys : List Defined). slice_get ys k) entered.cells) ∙ dep.1))) dep.2);
+      free = λ k d le dep. no_contents d (subst (λ (c : Defined). Contains (cells_in c.tree) d) (sym (last_is xs n k x dep.0 le (sym (ap (λ (ys : List Defined). slice_get ys k) entered.cells) ∙ dep.1))) dep.2);
     }

@@ -1,4 +1,4 @@
-ghost use Rattle.std.specs.Prelude.{◌≡◌, ◌+◌, ◌<◌, ◌^◌, ◌++◌, [], ◌∷◌, length, replicate, slice_get, IfOk, OnOk};
+ghost use Rattle.std.specs.Prelude.{◌≡◌, ◌+◌, ◌<◌, ◌^◌, ◌++◌, [], ◌∷◌, length, map, replicate, slice_get, IfOk, OnOk};
 ghost use Rattle.quartz_tree.specs.declared.declare.Var.{Var as AnyVar};
 ghost use Rattle.aif_cells.specs.Aif.{elements_of};
 ghost use Rattle.aif_cells.specs.Built.{all_defined};
@@ -68,8 +68,8 @@ fn reserve_one(cells: &mut Items<Cell>, place: Place) -> Result<u32, NoMemory>
     Ok(cell)
 }
 
-// So many reserved cells behind all others, by their numbers.
-fn reserve(
+/// So many reserved cells behind all others, by their numbers.
+pub fn reserve(
     alloc: Global,
     cells: &mut Items<Cell>,
     place: Place,
@@ -83,4 +83,15 @@ fn reserve(
         numbers.push(reserve_one(cells, place)?)?;
     }
     Ok(numbers)
+}
+
+/// The references of cells.
+pub fn cell_refs(alloc: Global, cells: &[u32]) -> Result<Items<Ref>, NoMemory>
+    ensures { IfOk result (λ rs. rs ≡ map Ref.Cell cells.now) }
+{
+    let mut references = Items::new(alloc);
+    for cell in cells {
+        references.push(Ref::Cell(*cell))?;
+    }
+    Ok(references)
 }

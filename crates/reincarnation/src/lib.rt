@@ -9,7 +9,7 @@ mod law;
 
 pub use carrying::carry;
 pub use copy::{ClosedRefs, Entered};
-pub use entering::enter_copy;
+pub use entering::{cell_refs, enter_copy, reserve};
 pub use law::carrying_keeps_one_store;
 
 #[cfg(test)]

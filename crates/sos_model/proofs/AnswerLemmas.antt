@@ -8,7 +8,6 @@ use Rattle.quartz_expr.specs.Terms.{Term}
 use Rattle.quartz_expr.specs.React.{Met, AllResolved, React, Reacts, givens}
 use Rattle.quartz_expr.specs.React as relation
 use Rattle.quartz_expr.proofs.LawLemmas.{same_refl}
-use Rattle.quartz_expr.proofs.TypingLemmas.{both_true}
 use Rattle.sos_model.specs.declared.found.Found.{Found}
 use Rattle.sos_model.specs.declared.react.Reaction.{Reaction}
 use Rattle.sos_model.specs.FormTerms.{term}
@@ -16,31 +15,26 @@ use Rattle.sos_model.specs.Found.{Finds, held_or, met_of, reaction_of}
 use Rattle.sos_model.specs.Answers.{IsReaction, IsUnresolved, first_unresolved, seen}
 use Rattle.sos_model.specs.Sound.{are_sound_vars, is_sound}
 use Rattle.sos_model.specs.Walk.{Walk, found, walk}
-use Rattle.sos_model.proofs.RangeLemmas.{both}
 use Rattle.sos_model.proofs.ReactLemmas.{as_resolved, reaction_walks, resolved_as, walk_reacts}
 use Rattle.sos_model.proofs.ResidualLemmas.{StaySound, stay_sound}
+use Rattle.quartz_expr.proofs.TruthLemmas.{and_parts, and_intro}
+use Rattle.quartz_expr.proofs.CoherentLemmas.{same_is}
 
 -- ---- variables
 
 pub vars_by_test : (vs : Vars) → are_sound_vars vs ≡ true → AreSound vs
 vars_by_test vs h =
-    let b = both_true (nat_lt (length vs) (2 ^ 32)) (have_sound_types vs) h in
+    let b = and_parts (nat_lt (length vs) (2 ^ 32)) (have_sound_types vs) h in
     let few : nat_lt (length vs) (2 ^ 32) ≡ true = b.0 in
     record { few = grind (arith, nat_tests, few); types = b.1 }
 
 pub test_of_vars : (vs : Vars) → AreSound vs → are_sound_vars vs ≡ true
-test_of_vars vs h = let few : length vs < 2 ^ 32 = h.few in both _ _ (grind (arith, nat_tests, few)) h.types
+test_of_vars vs h = let few : length vs < 2 ^ 32 = h.few in and_intro _ _ (grind (arith, nat_tests, few)) h.types
 
 -- ---- differences
 
-same_value_same : (y z : ℤ) → same_value y z ≡ true → y ≡ z
-same_value_same (pos m) (pos n) h = ap pos (grind (arith, nat_tests, h))
-same_value_same (pos m) (negsuc n) h = absurd (cc)
-same_value_same (negsuc m) (pos n) h = absurd (cc)
-same_value_same (negsuc m) (negsuc n) h = ap negsuc (grind (arith, nat_tests, h))
-
 resolved_then : (m : Met) (ms : List Met) (b : Bool) → same_value m.given m.wanted ≡ b → (first_unresolved ms ≡ None → AllResolved ms) → (if b then first_unresolved ms else Some m) ≡ None → AllResolved (m ∷ ms)
-resolved_then m ms true e f k = (same_value_same m.given m.wanted e, f k)
+resolved_then m ms true e f k = (same_is m.given m.wanted e, f k)
 resolved_then m ms false e f k = absurd (cc)
 
 resolved_if_none : (ms : List Met) → first_unresolved ms ≡ None → AllResolved ms

@@ -13,7 +13,6 @@ use Rattle.quartz_expr.specs.Typed.{AreSound, Fits, IsTyped}
 use Rattle.quartz_expr.specs.Terms.{Store, Term, nothing, pause, write, choose, seq, par, loop, abort, suspend, scope, guard_of, is_instant}
 use Rattle.quartz_expr.specs.Tick.{tick}
 use Rattle.quartz_expr.specs.React.{Reaction, store_of}
-use Rattle.quartz_expr.proofs.TypingLemmas.{both_true}
 use Rattle.sos_model.specs.declared.found.Found.{Found}
 use Rattle.sos_model.specs.Found.{Finds, reaction_of}
 use Rattle.sos_model.specs.Sound.{IsTypedIndex, fits_store, is_sound, is_typed, is_typed_index}
@@ -22,6 +21,7 @@ use Rattle.sos_model.proofs.EnvLemmas.{fits_set}
 use Rattle.sos_model.proofs.RangeLemmas.{read_lie, store_length}
 use Rattle.sos_model.proofs.TypedLemmas.{typed_by_test}
 use Rattle.sos_model.proofs.WalkLemmas.{drop_twice, finds_as, finds_now, lacks_as}
+use Rattle.quartz_expr.proofs.TruthLemmas.{and_parts}
 
 of_term : (vs : Vars) (env : Values) (t u : Term) (xs : List ℤ) (f : Found) → t ≡ u → Finds vs env u xs f → Finds vs env t xs f
 of_term vs env t u xs f e h = subst (λ (w : Term). Finds vs env w xs f) (sym e) h
@@ -36,7 +36,7 @@ finds_at vs env t u xs f q e w r n = of_term vs env t u xs f e (finds_now vs env
 
 pub sound_write : (vs : Vars) (t : Term) (x : ℕ) (i : Option (Tree ℕ)) (e : Tree ℕ) (d : Bool) (p q : Place) → t ≡ write x i e d p q → is_sound vs t ≡ true → (IsTypedIndex vs i) × IsTyped vs e
 sound_write vs t x i e d p q s h =
-    let b = both_true (is_typed_index vs i) (is_typed vs e) (both_true (nat_lt x (length vs)) _ (ap (is_sound vs) (sym s) ∙ h)).1 in
+    let b = and_parts (is_typed_index vs i) (is_typed vs e) (and_parts (nat_lt x (length vs)) _ (ap (is_sound vs) (sym s) ∙ h)).1 in
     (index i b.0, typed_by_test vs e b.1)
   where
     index : (i : Option (Tree ℕ)) → is_typed_index vs i ≡ true → IsTypedIndex vs i
@@ -47,8 +47,8 @@ sound_write vs t x i e d p q s h =
 
 pub sound_choice : (vs : Vars) (t : Term) (c : Tree ℕ) (a b : Term) → t ≡ choose c a b → is_sound vs t ≡ true → IsTyped vs c × (is_sound vs a ≡ true) × (is_sound vs b ≡ true)
 sound_choice vs t c a b e h =
-    let f = both_true (is_typed vs c) _ (ap (is_sound vs) (sym e) ∙ h) in
-    let g = both_true (is_sound vs a) (is_sound vs b) f.1 in
+    let f = and_parts (is_typed vs c) _ (ap (is_sound vs) (sym e) ∙ h) in
+    let g = and_parts (is_sound vs a) (is_sound vs b) f.1 in
     (typed_by_test vs c f.0, g.0, g.1)
 
 choice_walk : (vs : Vars) (env : Values) (c : Tree ℕ) (a b : Term) (xs : List ℤ) (z : Bool) → is_zero (value vs env c) ≡ z
@@ -74,7 +74,7 @@ lacks_yes vs env t c a b xs e z h = lacks_term vs env t (choose c a b) xs e (lac
 -- ---- loops
 
 pub sound_loop : (vs : Vars) (t u : Term) (c : Tree ℕ) → t ≡ loop u c → is_sound vs t ≡ true → is_sound vs u ≡ true
-sound_loop vs t u c e h = (both_true (is_typed vs c) (is_sound vs u) (both_true (not (is_instant u)) _ (ap (is_sound vs) (sym e) ∙ h)).1).1
+sound_loop vs t u c e h = (and_parts (is_typed vs c) (is_sound vs u) (and_parts (not (is_instant u)) _ (ap (is_sound vs) (sym e) ∙ h)).1).1
 
 pub finds_loop : (vs : Vars) (env : Values) (t u : Term) (c : Tree ℕ) (xs : List ℤ) (f g : Found) → t ≡ loop u c → Finds vs env u xs f → reaction_of (loop u c) g ≡ looped u c (reaction_of u f) → g.used ≡ f.used → Finds vs env t xs g
 finds_loop vs env t u c xs f g e h r n = of_term vs env t (loop u c) xs g e (finds_as vs env (loop u c) u xs (looped u c) f g h refl r n)
@@ -85,8 +85,8 @@ lacks_loop vs env t u c xs e h = lacks_term vs env t (loop u c) xs e (lacks_as v
 -- ---- guards
 
 guard_sound : (vs : Vars) (a w i : Bool) (u : Term) (c : Tree ℕ) → is_sound vs (guard_of a w i u c) ≡ true → IsTyped vs c × (is_sound vs u ≡ true)
-guard_sound vs true w i u c h = let b = both_true (is_typed vs c) (is_sound vs u) h in (typed_by_test vs c b.0, b.1)
-guard_sound vs false w i u c h = let b = both_true (is_typed vs c) (is_sound vs u) h in (typed_by_test vs c b.0, b.1)
+guard_sound vs true w i u c h = let b = and_parts (is_typed vs c) (is_sound vs u) h in (typed_by_test vs c b.0, b.1)
+guard_sound vs false w i u c h = let b = and_parts (is_typed vs c) (is_sound vs u) h in (typed_by_test vs c b.0, b.1)
 
 pub sound_guard : (vs : Vars) (t : Term) (a w i : Bool) (u : Term) (c : Tree ℕ) → t ≡ guard_of a w i u c → is_sound vs t ≡ true → IsTyped vs c × (is_sound vs u ≡ true)
 sound_guard vs t a w i u c e h = guard_sound vs a w i u c (ap (is_sound vs) (sym e) ∙ h)
@@ -119,9 +119,9 @@ lacks_guarded vs env t a w i u c xs e s h =
 
 pub sound_scope : (vs : Vars) (t : Term) (x : ℕ) (s : Option Store) (u : Term) → t ≡ scope x s u → is_sound vs t ≡ true → (x < length vs) × (fits_store vs x s ≡ true) × (is_sound vs u ≡ true)
 sound_scope vs t x s u e h =
-    let b = both_true (nat_lt x (length vs)) _ (ap (is_sound vs) (sym e) ∙ h) in
+    let b = and_parts (nat_lt x (length vs)) _ (ap (is_sound vs) (sym e) ∙ h) in
     let within : nat_lt x (length vs) ≡ true = b.0 in
-    let g = both_true (fits_store vs x s) (is_sound vs u) b.1 in
+    let g = and_parts (fits_store vs x s) (is_sound vs u) b.1 in
     (grind (arith, nat_tests, within), g.0, g.1)
 
 scope_walk : (vs : Vars) (env : Values) (x : ℕ) (s : Option Store) (u : Term) (xs : List ℤ) (b : Bool) → nat_le (taken_by vs x s) (length xs) ≡ b

@@ -8,21 +8,11 @@ use Rattle.quartz_expr.specs.Values.{Values, elements_in}
 use Rattle.quartz_expr.specs.Vars.{Vars, count_of}
 use Rattle.quartz_expr.specs.Intervals.{Interval, Lies, is_in, is_sound_base, is_sound_length, is_sound_type, range_of}
 use Rattle.quartz_expr.specs.Typed.{AllLie, AreSound, Fits, have_sound_types}
-use Rattle.quartz_expr.proofs.TypingLemmas.{both_true}
 use Rattle.sos_model.proofs.RangeLemmas.{AllIn}
+use Rattle.quartz_expr.proofs.TruthLemmas.{and_parts}
+use Rattle.quartz_expr.proofs.RangeLemmas.{in_lies, some_length, some_element}
 
 -- ---- a variable that fits has a place in the environment
-
-some_length : (l : Option ℕ) → is_sound_length l ≡ true → 1 ≤ unwrap_or l 1
-some_length None h = omega arith
-some_length (Some n) h =
-    let k : nat_le 1 n ≡ true = (both_true (nat_le 1 n) (nat_le n 64) h).0 in
-    grind (arith, nat_tests, k)
-
-some_at : (vs : Vars) (x : ℕ) → have_sound_types vs ≡ true → 1 ≤ count_of vs x
-some_at [] x h = omega arith
-some_at (v ∷ vs) zero h = some_length v.decl.ty.len (both_true (is_sound_base v.decl.ty.base) (is_sound_length v.decl.ty.len) (both_true (is_sound_type v.decl.ty) (have_sound_types vs) h).0).1
-some_at (v ∷ vs) (suc x) h = some_at vs x (both_true (is_sound_type v.decl.ty) (have_sound_types vs) h).1
 
 past_empty : (env : Values) (x : ℕ) → length env ≤ x → elements_in env x ≡ []
 past_empty env x h = ap (λ (o : Option (List ℤ)). unwrap_or o []) (slice_get_past env x h)
@@ -35,7 +25,7 @@ has_place vs env x s f h = at (nat_lt x (length env)) refl
     at false e =
         let past : length env ≤ x = grind (arith, nat_tests, e) in
         let none : length (elements_in env x) ≡ 0 = ap (λ (l : List ℤ). length l) (past_empty env x past) in
-        let some : 1 ≤ count_of vs x = some_at vs x s.types in
+        let some : 1 ≤ count_of vs x = some_element vs x s.types in
         let counted : length (elements_in env x) ≡ count_of vs x = f.counts x h in
         absurd (omega (arith, none, some, counted))
 
@@ -49,13 +39,6 @@ elements_same env x v h = elements_or (slice_set env x v) x ∙ get_or-set_same 
 
 elements_other : (env : Values) (x y : ℕ) (v : List ℤ) → y ≢ x → elements_in (slice_set env x v) y ≡ elements_in env y
 elements_other env x y v n = elements_or (slice_set env x v) y ∙ get_or-set_other env x y v [] n ∙ sym (elements_or env y)
-
-in_lies : (i : Interval) (z : ℤ) → is_in i z ≡ true → Lies i z
-in_lies i z h =
-    let b = both_true (int_le i.low z) (int_le z i.high) h in
-    let low : int_le i.low z ≡ true = b.0 in
-    let high : int_le z i.high ≡ true = b.1 in
-    record { above = grind (arith, ints, low); below = grind (arith, ints, high) }
 
 all_lie : (i : Interval) (zs : List ℤ) → AllIn i zs → AllLie i zs
 all_lie i [] h = tt

@@ -11,6 +11,7 @@ use Rattle.sos_model.specs.declared.passed.Beside.{Beside}
 use Rattle.sos_model.specs.FormTerms.{term, terms}
 use Rattle.sos_model.specs.Found.{held_or, met_of, reaction_of}
 use Rattle.sos_model.specs.Passed.{behind, behind_all, before}
+use Rattle.quartz_expr.proofs.TruthLemmas.{and_assoc}
 
 pub sequence_alone : (t : Term) (fs : List Form) → fs ≡ [] → sequence t (terms (map term fs)) ≡ t
 sequence_alone t [] h = refl
@@ -51,10 +52,6 @@ before_more (t ∷ rs) r ts = ap (part t) (before_more rs r ts)
 
 before_form : (fs gs : List Form) (f : Form) (ts : Terms) → gs ≡ fs ++ f ∷ [] → before (map term gs) ts ≡ before (map term fs) (part (term f) ts)
 before_form fs gs f ts h = ap (λ l. before (map term l) ts) h ∙ ap (λ l. before l ts) (map_append term fs (f ∷ [])) ∙ before_more (map term fs) (term f) ts
-
-and_assoc : (a b c : Bool) → ((a && b) && c) ≡ (a && (b && c))
-and_assoc true b c = refl
-and_assoc false b c = refl
 
 pub beside_more : (b c : Beside) (t : Term) (f : Found) (k : Form) (p : Reactions) → c.residuals.items ≡ b.residuals.items ++ f.residual ∷ [] → c.helds.items ≡ b.helds.items ++ k ∷ [] → term k ≡ held_or (option_map term f.held) t
     → c.acts.items ≡ b.acts.items ++ f.acts.items → c.faults.items ≡ b.faults.items ++ f.faults.items → c.met.items ≡ b.met.items ++ f.met.items

@@ -17,13 +17,10 @@ use Rattle.quartz_expr.specs.Writes.{in_range}
 use Rattle.quartz_expr.specs.Resolve.{absence, absent, first_of_all, fresh_store, given_store, is_write_of, kept, others, resolved, resolved_store, values_of, writes_of}
 use Rattle.quartz_expr.specs.Tick.{advanced}
 use Rattle.quartz_expr.specs.React.{store_of}
-use Rattle.quartz_expr.proofs.TypingLemmas.{both_true}
 use Rattle.sos_model.specs.Sound.{fits_store, lie_kept, lies_kept}
 use Rattle.sos_model.specs.Walk.{read_as}
-
-pub both : (a b : Bool) → a ≡ true → b ≡ true → (a && b) ≡ true
-both true b e f = f
-both false b e f = absurd (cc)
+use Rattle.quartz_expr.proofs.TruthLemmas.{and_parts, and_intro}
+use Rattle.quartz_expr.proofs.RangeLemmas.{zero_in_base, zero_in_type}
 
 -- ---- 0
 
@@ -33,23 +30,9 @@ zero_from n h = grind (arith, ints, nat_tests, h)
 zero_between : (n : ℕ) → nat_le 1 n ≡ true → is_in (base_interval (base.Int n)) (pos 0) ≡ true
 zero_between n h = grind (arith, ints, nat_tests, h)
 
-zero_base : (b : Base) → is_sound_base b ≡ true → is_in (base_interval b) (pos 0) ≡ true
-zero_base base.Bool h = refl
-zero_base (base.Nat n) h = zero_from n (both_true (nat_le 1 n) _ h).0
-zero_base (base.Int n) h = zero_between n (both_true (nat_le 1 n) _ h).0
-zero_base (base.Bv n) h = grind (arith, ints, nat_tests)
-
-zero_type : (t : Ty) → is_in (type_interval t) (pos 0) ≡ true
-zero_type t = at (is_sound_base t.base) (is_sound_length t.len) refl
-  where
-    at : (a b : Bool) → is_sound_base t.base ≡ a → is_in (sound_or_nought (a && b) (base_interval t.base)) (pos 0) ≡ true
-    at true true e = zero_base t.base e
-    at true false e = refl
-    at false b e = refl
-
 pub zero_in : (vs : Vars) (x : ℕ) → is_in (range_of vs x) (pos 0) ≡ true
 zero_in [] x = refl
-zero_in (v ∷ vs) zero = zero_type v.decl.ty
+zero_in (v ∷ vs) zero = zero_in_type v.decl.ty
 zero_in (v ∷ vs) (suc x) = zero_in vs x
 
 -- ---- values
@@ -93,7 +76,7 @@ acts_others vs x [] h = tt
 acts_others vs x (a ∷ ws) h = act_or_not vs a (others x ws) (a.var == x) h.0 (acts_others vs x ws h.1)
 
 same_var : (x n : ℕ) (d : Bool) (a : Act) → is_write_of x n d a ≡ true → a.var ≡ x
-same_var x n d a e = let same : (a.var == x) ≡ true = (both_true (a.var == x) _ e).0 in grind (arith, nat_tests, same)
+same_var x n d a e = let same : (a.var == x) ≡ true = (and_parts (a.var == x) _ e).0 in grind (arith, nat_tests, same)
 
 write_or_not : (vs : Vars) (x n : ℕ) (d : Bool) (a : Act) (zs : List ℤ) (b : Bool) → is_write_of x n d a ≡ b → is_in (range_of vs a.var) a.value ≡ true → AllIn (range_of vs x) zs
     → AllIn (range_of vs x) (if b then a.value ∷ zs else zs)
@@ -111,29 +94,29 @@ first_lies i z [] h k = h
 first_lies i z (y ∷ zs) h k = k.0
 
 pub kept_lies : (i : Interval) (z : ℤ) (zs : List ℤ) → is_in i z ≡ true → AllIn i zs → lies_kept i (kept z zs) ≡ true
-kept_lies i z zs h k = both _ _ h (first_lies i z zs h k)
+kept_lies i z zs h k = and_intro _ _ h (first_lies i z zs h k)
 
 absence_lies : (vs : Vars) (x : ℕ) (s : Storage) (z : ℤ) → is_in (range_of vs x) z ≡ true → is_in (range_of vs x) (absence s z) ≡ true
 absence_lies vs x Mem z h = h
 absence_lies vs x Event z h = zero_in vs x
 
 pub resolved_lies : (vs : Vars) (x : ℕ) (s : Storage) (k : Kept) (zs : List ℤ) → lies_kept (range_of vs x) k ≡ true → AllIn (range_of vs x) zs → is_in (range_of vs x) (resolved s k zs) ≡ true
-resolved_lies vs x s k zs h l = at k.pending (both_true _ _ h).1
+resolved_lies vs x s k zs h l = at k.pending (and_parts _ _ h).1
   where
     at : (p : Option ℤ) → is_in (range_of vs x) (unwrap_or p k.value) ≡ true → is_in (range_of vs x) (unwrap_or p (unwrap_or (first_of_all zs) (absence s k.value))) ≡ true
-    at None e = first_lies (range_of vs x) (absence s k.value) zs (absence_lies vs x s k.value (both_true _ _ h).0) l
+    at None e = first_lies (range_of vs x) (absence s k.value) zs (absence_lies vs x s k.value (and_parts _ _ h).0) l
     at (Some z) e = e
 
 pub wanted_lie : (vs : Vars) (x n : ℕ) (st : Storage) (ws : List Act) (s : Store) → lie_kept (range_of vs x) s ≡ true → ActsLie vs ws → AllIn (range_of vs x) (values_of (resolved_store st x ws n s))
 wanted_lie vs x n st ws [] h k = tt
 wanted_lie vs x n st ws (e ∷ s) h k =
-    let b = both_true (lies_kept (range_of vs x) e) (lie_kept (range_of vs x) s) h in
+    let b = and_parts (lies_kept (range_of vs x) e) (lie_kept (range_of vs x) s) h in
     (resolved_lies vs x st e (writes_of x n false ws) b.0 (writes_lie vs x n false ws k), wanted_lie vs x (n + 1) st ws s b.1 k)
 
 pub given_lie : (vs : Vars) (x n : ℕ) (ws : List Act) (zs : List ℤ) → AllIn (range_of vs x) zs → ActsLie vs ws → lie_kept (range_of vs x) (given_store x ws n zs) ≡ true
 given_lie vs x n ws [] h k = refl
 given_lie vs x n ws (z ∷ zs) h k =
-    both _ _ (kept_lies (range_of vs x) z (writes_of x n true ws) h.0 (writes_lie vs x n true ws k)) (given_lie vs x (n + 1) ws zs h.1 k)
+    and_intro _ _ (kept_lies (range_of vs x) z (writes_of x n true ws) h.0 (writes_lie vs x n true ws k)) (given_lie vs x (n + 1) ws zs h.1 k)
 
 pub given_length : (x n : ℕ) (ws : List Act) (zs : List ℤ) → length (given_store x ws n zs) ≡ length zs
 given_length x n ws [] = refl
@@ -146,7 +129,7 @@ resolved_length s x n ws (k ∷ ks) = ap suc (resolved_length s x (n + 1) ws ks)
 -- a fresh store
 fresh_lie : (i : Interval) (n : ℕ) (z : ℤ) → is_in i z ≡ true → lie_kept i (replicate n (record { value = z; pending = None })) ≡ true
 fresh_lie i zero z h = refl
-fresh_lie i (suc n) z h = both _ _ (both _ _ h h) (fresh_lie i n z h)
+fresh_lie i (suc n) z h = and_intro _ _ (and_intro _ _ h h) (fresh_lie i n z h)
 
 fresh_length : {A : Type 0} (n : ℕ) (a : A) → length (replicate n a) ≡ n
 fresh_length zero a = refl
@@ -154,29 +137,29 @@ fresh_length (suc n) a = ap suc (fresh_length n a)
 
 pub store_lies : (vs : Vars) (x : ℕ) (s : Option Store) → fits_store vs x s ≡ true → lie_kept (range_of vs x) (store_of vs x s) ≡ true
 store_lies vs x None h = fresh_lie (range_of vs x) (count_of vs x) (start_of vs x) h
-store_lies vs x (Some s) h = (both_true (length s == count_of vs x) _ h).1
+store_lies vs x (Some s) h = (and_parts (length s == count_of vs x) _ h).1
 
 pub store_length : (vs : Vars) (x : ℕ) (s : Option Store) → fits_store vs x s ≡ true → length (store_of vs x s) ≡ count_of vs x
 store_length vs x None h = fresh_length (count_of vs x) (record { value = start_of vs x; pending = None })
-store_length vs x (Some s) h = let same : (length s == count_of vs x) ≡ true = (both_true (length s == count_of vs x) _ h).0 in grind (arith, nat_tests, same)
+store_length vs x (Some s) h = let same : (length s == count_of vs x) ≡ true = (and_parts (length s == count_of vs x) _ h).0 in grind (arith, nat_tests, same)
 
 -- a store that a scope leaves fits
 pub new_fits : (vs : Vars) (x : ℕ) (ws : List Act) (zs : List ℤ) → length zs ≡ count_of vs x → AllIn (range_of vs x) zs → ActsLie vs ws → fits_store vs x (Some (given_store x ws 0 zs)) ≡ true
 new_fits vs x ws zs l h k =
     let long : length (given_store x ws 0 zs) ≡ count_of vs x = given_length x 0 ws zs ∙ l in
-    both _ _ (grind (arith, nat_tests, long)) (given_lie vs x 0 ws zs h k)
+    and_intro _ _ (grind (arith, nat_tests, long)) (given_lie vs x 0 ws zs h k)
 
 -- an advanced store
 absent_lie : (vs : Vars) (x : ℕ) (st : Storage) (s : Store) → lie_kept (range_of vs x) s ≡ true → lie_kept (range_of vs x) (map (absent st) s) ≡ true
 absent_lie vs x st [] h = refl
 absent_lie vs x st (k ∷ s) h =
-    let b = both_true (lies_kept (range_of vs x) k) (lie_kept (range_of vs x) s) h in
-    both _ _ (kept_lies (range_of vs x) (resolved st k []) [] (resolved_lies vs x st k [] b.0 tt) tt) (absent_lie vs x st s b.1)
+    let b = and_parts (lies_kept (range_of vs x) k) (lie_kept (range_of vs x) s) h in
+    and_intro _ _ (kept_lies (range_of vs x) (resolved st k []) [] (resolved_lies vs x st k [] b.0 tt) tt) (absent_lie vs x st s b.1)
 
 pub advanced_fits : (vs : Vars) (x : ℕ) (s : Option Store) → fits_store vs x s ≡ true → fits_store vs x (option_map (advanced vs x) s) ≡ true
 advanced_fits vs x None h = h
 advanced_fits vs x (Some s) h =
-    let b = both_true (length s == count_of vs x) (lie_kept (range_of vs x) s) h in
+    let b = and_parts (length s == count_of vs x) (lie_kept (range_of vs x) s) h in
     let same : (length s == count_of vs x) ≡ true = b.0 in
     let long : length (map (absent (storage_of vs x)) s) ≡ length s = simp length-map in
-    both _ _ (grind (arith, nat_tests, same, long)) (absent_lie vs x (storage_of vs x) s b.1)
+    and_intro _ _ (grind (arith, nat_tests, same, long)) (absent_lie vs x (storage_of vs x) s b.1)

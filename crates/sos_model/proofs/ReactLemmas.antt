@@ -17,27 +17,18 @@ use Rattle.quartz_expr.specs.Terms.{Store, Term, nothing, pause, write, choose, 
 use Rattle.quartz_expr.specs.Resolve.{given_store, resolved_store, values_of}
 use Rattle.quartz_expr.specs.Tick.{tick}
 use Rattle.quartz_expr.specs.React.{Met, Reaction, Reactions, sequence, unless_ended, ends, rests, after_faults, formed, stays, goes_on, beside, together, store_of, meetings, held_scope, scoped, React, ReactEach, AllResolved, of_nothing, of_pause, of_write, of_yes, of_no, of_none, of_turn, of_stop, of_par, of_loop, of_delayed_abort, of_delayed_suspend, of_spared_abort, of_spared_suspend, of_strong_abort, of_weak_abort, of_strong_suspend, of_weak_suspend, of_scope, of_nobody, of_beside, givens}
-use Rattle.quartz_expr.proofs.TypingLemmas.{both_true}
-use Rattle.quartz_expr.proofs.LawLemmas.{stays_on}
+use Rattle.quartz_expr.proofs.LawLemmas.{stays_on, givens_append, givens_meetings}
 use Rattle.sos_model.specs.Sound.{is_sound, are_sound, is_typed, fits_store}
 use Rattle.sos_model.specs.Walk.{Walk, Walks, again, before_walks, chosen, delayed_guard, entered, found, guard_on, guarded, looped, on_reaction, read_as, spared_guard, stopped, stops_body, strong_guard, taken_by, tested_guard, together_walk, turned, walk, walk_all, walk_each, weak_guard}
-use Rattle.sos_model.proofs.RangeLemmas.{AllIn, ActsLie, acts_append, acts_others, both, read_lies, resolved_length, store_lies, wanted_lie}
+use Rattle.sos_model.proofs.RangeLemmas.{AllIn, ActsLie, acts_append, acts_others, read_lies, resolved_length, store_lies, wanted_lie}
 use Rattle.sos_model.proofs.SoundLemmas.{tick_stays}
 use Rattle.sos_model.specs.Read.{all_as_read, as_read, read_met}
+use Rattle.quartz_expr.proofs.TruthLemmas.{and_parts, and_intro}
 
 abbrev found_each : List ℤ → Reactions → Option Walks
 found_each xs q = Some (record { reactions = q; rest = xs })
 
 -- ---- lists
-
-givens_append : (a b : List Met) (xs : List ℤ) → givens (a ++ b) ++ xs ≡ givens a ++ (givens b ++ xs)
-givens_append [] b xs = refl
-givens_append (m ∷ a) b xs = ap (λ (l : List ℤ). m.given ∷ l) (givens_append a b xs)
-
-givens_meetings : (x : ℕ) (v w : List ℤ) → length v ≡ length w → givens (meetings x v w) ≡ v
-givens_meetings x [] w e = refl
-givens_meetings x (z ∷ v) [] e = absurd (omega arith)
-givens_meetings x (z ∷ v) (y ∷ w) e = ap (λ (l : List ℤ). z ∷ l) (givens_meetings x v w (omega arith))
 
 -- ---- what is read of given values
 
@@ -170,35 +161,35 @@ mutual
   wanted_in vs env _ _ (of_nothing _) h = tt
   wanted_in vs env _ _ (of_pause _) h = tt
   wanted_in vs env _ _ (of_write _ x i e d p q) h = tt
-  wanted_in vs env _ _ (of_yes _ c a b q e k) h = wanted_in vs env a q k (both_true (is_sound vs a) (is_sound vs b) (both_true (is_typed vs c) _ h).1).0
-  wanted_in vs env _ _ (of_no _ c a b q e k) h = wanted_in vs env b q k (both_true (is_sound vs a) (is_sound vs b) (both_true (is_typed vs c) _ h).1).1
+  wanted_in vs env _ _ (of_yes _ c a b q e k) h = wanted_in vs env a q k (and_parts (is_sound vs a) (is_sound vs b) (and_parts (is_typed vs c) _ h).1).0
+  wanted_in vs env _ _ (of_no _ c a b q e k) h = wanted_in vs env b q k (and_parts (is_sound vs a) (is_sound vs b) (and_parts (is_typed vs c) _ h).1).1
   wanted_in vs env _ _ (of_none _) h = tt
   wanted_in vs env _ _ (of_turn _ t ts q p k e j) h =
-      let f = both_true (is_sound vs t) (are_sound vs ts) h in
+      let f = and_parts (is_sound vs t) (are_sound vs ts) h in
       wanted_append vs q.met p.met (wanted_in vs env t q k f.0) (wanted_in vs env (seq ts) p j f.1)
-  wanted_in vs env _ _ (of_stop _ t ts q k e) h = wanted_in vs env t q k (both_true (is_sound vs t) (are_sound vs ts) h).0
+  wanted_in vs env _ _ (of_stop _ t ts q k e) h = wanted_in vs env t q k (and_parts (is_sound vs t) (are_sound vs ts) h).0
   wanted_in vs env _ _ (of_par _ ts p k) h = all_wanted_in vs env ts p k h
   wanted_in vs env _ _ (of_loop _ t c q k) h =
-      let f = both_true (not (is_instant t)) _ h in
-      let g = both_true (is_typed vs c) (is_sound vs t) f.1 in
-      wanted_in vs env _ q k (both _ _ g.1 (both _ _ (both _ _ g.0 (both _ _ h refl)) refl))
-  wanted_in vs env _ _ (of_delayed_abort _ w t c q k) h = wanted_in vs env t q k (both_true (is_typed vs c) (is_sound vs t) h).1
-  wanted_in vs env _ _ (of_delayed_suspend _ w t c q k) h = wanted_in vs env t q k (both_true (is_typed vs c) (is_sound vs t) h).1
-  wanted_in vs env _ _ (of_spared_abort _ w t c q e k) h = wanted_in vs env t q k (both_true (is_typed vs c) (is_sound vs t) h).1
-  wanted_in vs env _ _ (of_spared_suspend _ w t c q e k) h = wanted_in vs env t q k (both_true (is_typed vs c) (is_sound vs t) h).1
+      let f = and_parts (not (is_instant t)) _ h in
+      let g = and_parts (is_typed vs c) (is_sound vs t) f.1 in
+      wanted_in vs env _ q k (and_intro _ _ g.1 (and_intro _ _ (and_intro _ _ g.0 (and_intro _ _ h refl)) refl))
+  wanted_in vs env _ _ (of_delayed_abort _ w t c q k) h = wanted_in vs env t q k (and_parts (is_typed vs c) (is_sound vs t) h).1
+  wanted_in vs env _ _ (of_delayed_suspend _ w t c q k) h = wanted_in vs env t q k (and_parts (is_typed vs c) (is_sound vs t) h).1
+  wanted_in vs env _ _ (of_spared_abort _ w t c q e k) h = wanted_in vs env t q k (and_parts (is_typed vs c) (is_sound vs t) h).1
+  wanted_in vs env _ _ (of_spared_suspend _ w t c q e k) h = wanted_in vs env t q k (and_parts (is_typed vs c) (is_sound vs t) h).1
   wanted_in vs env _ _ (of_strong_abort _ t c e) h = tt
-  wanted_in vs env _ _ (of_weak_abort _ t c q e k) h = wanted_in vs env t q k (both_true (is_typed vs c) (is_sound vs t) h).1
+  wanted_in vs env _ _ (of_weak_abort _ t c q e k) h = wanted_in vs env t q k (and_parts (is_typed vs c) (is_sound vs t) h).1
   wanted_in vs env _ _ (of_strong_suspend _ t c e) h = tt
-  wanted_in vs env _ _ (of_weak_suspend _ t c q e k) h = wanted_in vs env t q k (both_true (is_typed vs c) (is_sound vs t) h).1
+  wanted_in vs env _ _ (of_weak_suspend _ t c q e k) h = wanted_in vs env t q k (and_parts (is_typed vs c) (is_sound vs t) h).1
   wanted_in vs env _ _ (of_scope _ x s t v q l k) h =
-      let f = both_true (fits_store vs x s) (is_sound vs t) (both_true (nat_lt x (length vs)) _ h).1 in
+      let f = and_parts (fits_store vs x s) (is_sound vs t) (and_parts (nat_lt x (length vs)) _ h).1 in
       wanted_append vs (meetings x v (wanted_by vs x s q.acts)) q.met
       (wanted_meetings vs x v (wanted_by vs x s q.acts) (scope_wants vs x s q.acts f.0 (acts_lie vs (slice_set env x v) t q k))) (wanted_in vs (slice_set env x v) t q k f.1)
 
   all_wanted_in : (vs : Vars) (env : Values) (ts : Terms) (p : Reactions) → ReactEach vs env ts p → are_sound vs ts ≡ true → AllWantedIn vs p.met
   all_wanted_in vs env _ _ (of_nobody _) h = tt
   all_wanted_in vs env _ _ (of_beside _ t ts q p k j) h =
-      let f = both_true (is_sound vs t) (are_sound vs ts) h in
+      let f = and_parts (is_sound vs t) (are_sound vs ts) h in
       wanted_append vs q.met p.met (wanted_in vs env t q k f.0) (all_wanted_in vs env ts p j f.1)
 
 -- ---- each walk is a reaction
@@ -340,30 +331,30 @@ mutual
   real vs env pause xs h = (of_pause env, refl)
   real vs env (write x i e d p q) xs h = (of_write env x i e d p q, refl)
   real vs env (choose c a b) xs h =
-      let f = both_true (is_sound vs a) (is_sound vs b) (both_true (is_typed vs c) _ h).1 in
+      let f = and_parts (is_sound vs a) (is_sound vs b) (and_parts (is_typed vs c) _ h).1 in
       real_choice vs env c a b xs (real vs env a xs f.0) (real vs env b xs f.1)
   real vs env (seq ts) xs h = real_all vs env ts xs h
   real vs env (par ts) xs h = on_map (RealEach vs env ts xs) (Real vs env (par ts) xs) together_walk (walk_each vs env ts xs) (real_each vs env ts xs h) (λ w k. (of_par env ts (all_as_read vs w.reactions) k.0, k.1))
   real vs env (loop t c) xs h =
-      let f = both_true (not (is_instant t)) _ h in
-      real_loop vs env t c xs (not_true (is_instant t) f.0) (real vs env t xs (both_true (is_typed vs c) (is_sound vs t) f.1).1)
-  real vs env (abort w i t c) xs h = real_abort vs env w i t c xs (real vs env t xs (both_true (is_typed vs c) (is_sound vs t) h).1)
-  real vs env (suspend w i t c) xs h = real_suspend vs env w i t c xs (real vs env t xs (both_true (is_typed vs c) (is_sound vs t) h).1)
+      let f = and_parts (not (is_instant t)) _ h in
+      real_loop vs env t c xs (not_true (is_instant t) f.0) (real vs env t xs (and_parts (is_typed vs c) (is_sound vs t) f.1).1)
+  real vs env (abort w i t c) xs h = real_abort vs env w i t c xs (real vs env t xs (and_parts (is_typed vs c) (is_sound vs t) h).1)
+  real vs env (suspend w i t c) xs h = real_suspend vs env w i t c xs (real vs env t xs (and_parts (is_typed vs c) (is_sound vs t) h).1)
   real vs env (scope x s t) xs h =
-      let f = both_true (fits_store vs x s) (is_sound vs t) (both_true (nat_lt x (length vs)) _ h).1 in
+      let f = and_parts (fits_store vs x s) (is_sound vs t) (and_parts (nat_lt x (length vs)) _ h).1 in
       real_scope vs env x s t xs (real vs (slice_set env x (read_as vs x (take (taken_by vs x s) xs))) t (drop (taken_by vs x s) xs) f.1)
 
   real_all : (vs : Vars) (env : Values) (ts : Terms) (xs : List ℤ) → are_sound vs ts ≡ true → OnWalk (Real vs env (seq ts) xs) (walk_all vs env ts xs)
   real_all vs env none xs h = (of_none env, refl)
   real_all vs env (part t ts) xs h =
-      let f = both_true (is_sound vs t) (are_sound vs ts) h in
+      let f = and_parts (is_sound vs t) (are_sound vs ts) h in
       on_then (Real vs env t xs) (Real vs env (seq (part t ts)) xs) (λ w. turned ts w.reaction w.rest (walk_all vs env ts w.rest)) (walk vs env t xs) (real vs env t xs f.0)
       (λ w k. real_turned vs env t ts xs w k (real_all vs env ts w.rest f.1))
 
   real_each : (vs : Vars) (env : Values) (ts : Terms) (xs : List ℤ) → are_sound vs ts ≡ true → OnWalk (RealEach vs env ts xs) (walk_each vs env ts xs)
   real_each vs env none xs h = (of_nobody env, refl)
   real_each vs env (part t ts) xs h =
-      let f = both_true (is_sound vs t) (are_sound vs ts) h in
+      let f = and_parts (is_sound vs t) (are_sound vs ts) h in
       on_then (Real vs env t xs) (RealEach vs env (part t ts) xs) (λ w. option_map (before_walks w.reaction) (walk_each vs env ts w.rest)) (walk vs env t xs) (real vs env t xs f.0)
       (λ w k. on_map (RealEach vs env ts w.rest) (RealEach vs env (part t ts) xs) (before_walks w.reaction) (walk_each vs env ts w.rest) (real_each vs env ts w.rest f.1) (λ u j. real_beside vs env t ts xs w k u j))
 
@@ -431,14 +422,14 @@ mutual
   walked vs env _ _ (of_pause _) h ms m ys = none_met vs ms ys (record { residual = nothing; held = pause; acts = []; faults = []; met = []; ended = false }) m
   walked vs env _ _ (of_write _ x i e d p q) h ms m ys = none_met vs ms ys (ends (write_acts vs env x i e d) (write_faults vs env x i e p q) (write x i e d p q)) m
   walked vs env _ _ (of_yes _ c a b q e k) h ms m ys =
-      let f = both_true (is_sound vs a) (is_sound vs b) (both_true (is_typed vs c) _ h).1 in
+      let f = and_parts (is_sound vs a) (is_sound vs b) (and_parts (is_typed vs c) _ h).1 in
       chosen_by vs env c a b (givens ms ++ ys) false e ∙ mapped (chosen (faults vs env c) (choose c a b)) (walk vs env a (givens ms ++ ys)) ys (record q { met = ms }) (walked vs env a q k f.0 ms m ys)
   walked vs env _ _ (of_no _ c a b q e k) h ms m ys =
-      let f = both_true (is_sound vs a) (is_sound vs b) (both_true (is_typed vs c) _ h).1 in
+      let f = and_parts (is_sound vs a) (is_sound vs b) (and_parts (is_typed vs c) _ h).1 in
       chosen_by vs env c a b (givens ms ++ ys) true e ∙ mapped (chosen (faults vs env c) (choose c a b)) (walk vs env b (givens ms ++ ys)) ys (record q { met = ms }) (walked vs env b q k f.1 ms m ys)
   walked vs env _ _ (of_none _) h ms m ys = none_met vs ms ys (ends [] [] (seq none)) m
   walked vs env _ _ (of_turn _ t ts q p k e j) h ms m ys =
-      let f = both_true (is_sound vs t) (are_sound vs ts) h in
+      let f = and_parts (is_sound vs t) (are_sound vs ts) h in
       let c = cut vs ms q.met p.met m in
       ap (λ (l : List Met). walk_all vs env (part t ts) (givens l ++ ys)) c.whole
       ∙ ap (λ (l : List ℤ). walk_all vs env (part t ts) l) (givens_append c.front c.back ys)
@@ -446,33 +437,33 @@ mutual
       (walked vs env t q k f.0 c.front c.fronts (givens c.back ++ ys)) e (walked vs env (seq ts) p j f.1 c.back c.backs ys)
       ∙ ap (λ (l : List Met). found ys (record (goes_on ts q p) { met = l })) (sym c.whole)
   walked vs env _ _ (of_stop _ t ts q k e) h ms m ys =
-      stopped_walk vs env t ts (givens ms ++ ys) ys (record q { met = ms }) (walked vs env t q k (both_true (is_sound vs t) (are_sound vs ts) h).0 ms m ys) e
+      stopped_walk vs env t ts (givens ms ++ ys) ys (record q { met = ms }) (walked vs env t q k (and_parts (is_sound vs t) (are_sound vs ts) h).0 ms m ys) e
   walked vs env _ _ (of_par _ ts p k) h ms m ys = ap (λ (o : Option Walks). option_map together_walk o) (walked_each vs env ts p k h ms m ys)
   walked vs env _ _ (of_loop _ t c _ (of_turn _ _ _ q p k e j)) h ms m ys =
-      absurd (ended_twice q.ended e (stays_on vs env t q (not_true (is_instant t) (both_true (not (is_instant t)) _ h).0) k))
+      absurd (ended_twice q.ended e (stays_on vs env t q (not_true (is_instant t) (and_parts (not (is_instant t)) _ h).0) k))
   walked vs env _ _ (of_loop _ t c _ (of_stop _ _ _ q k e)) h ms m ys =
-      let f = both_true (is_typed vs c) (is_sound vs t) (both_true (not (is_instant t)) _ h).1 in
+      let f = and_parts (is_typed vs c) (is_sound vs t) (and_parts (not (is_instant t)) _ h).1 in
       mapped (looped t c) (walk vs env t (givens ms ++ ys)) ys (record q { met = ms }) (walked vs env t q k f.1 ms m ys)
   walked vs env _ _ (of_delayed_abort _ w t c q k) h ms m ys =
-      mapped (delayed_guard true w t c) (walk vs env t (givens ms ++ ys)) ys (record q { met = ms }) (walked vs env t q k (both_true (is_typed vs c) (is_sound vs t) h).1 ms m ys)
+      mapped (delayed_guard true w t c) (walk vs env t (givens ms ++ ys)) ys (record q { met = ms }) (walked vs env t q k (and_parts (is_typed vs c) (is_sound vs t) h).1 ms m ys)
   walked vs env _ _ (of_delayed_suspend _ w t c q k) h ms m ys =
-      mapped (delayed_guard false w t c) (walk vs env t (givens ms ++ ys)) ys (record q { met = ms }) (walked vs env t q k (both_true (is_typed vs c) (is_sound vs t) h).1 ms m ys)
+      mapped (delayed_guard false w t c) (walk vs env t (givens ms ++ ys)) ys (record q { met = ms }) (walked vs env t q k (and_parts (is_typed vs c) (is_sound vs t) h).1 ms m ys)
   walked vs env _ _ (of_spared_abort _ w t c q e k) h ms m ys =
-      spared_by vs env true w t c (givens ms ++ ys) ys (record q { met = ms }) e (walked vs env t q k (both_true (is_typed vs c) (is_sound vs t) h).1 ms m ys)
+      spared_by vs env true w t c (givens ms ++ ys) ys (record q { met = ms }) e (walked vs env t q k (and_parts (is_typed vs c) (is_sound vs t) h).1 ms m ys)
   walked vs env _ _ (of_spared_suspend _ w t c q e k) h ms m ys =
-      spared_by vs env false w t c (givens ms ++ ys) ys (record q { met = ms }) e (walked vs env t q k (both_true (is_typed vs c) (is_sound vs t) h).1 ms m ys)
+      spared_by vs env false w t c (givens ms ++ ys) ys (record q { met = ms }) e (walked vs env t q k (and_parts (is_typed vs c) (is_sound vs t) h).1 ms m ys)
   walked vs env _ _ (of_strong_abort _ t c e) h ms m ys =
       guarded_by vs env true false t c (givens ms ++ ys) false e ∙ none_met vs ms ys (ends [] (faults vs env c) (abort false true (tick vs t) c)) m
   walked vs env _ _ (of_weak_abort _ t c q e k) h ms m ys =
       guarded_by vs env true true t c (givens ms ++ ys) false e
-      ∙ mapped (weak_guard true c (faults vs env c)) (walk vs env t (givens ms ++ ys)) ys (record q { met = ms }) (walked vs env t q k (both_true (is_typed vs c) (is_sound vs t) h).1 ms m ys)
+      ∙ mapped (weak_guard true c (faults vs env c)) (walk vs env t (givens ms ++ ys)) ys (record q { met = ms }) (walked vs env t q k (and_parts (is_typed vs c) (is_sound vs t) h).1 ms m ys)
   walked vs env _ _ (of_strong_suspend _ t c e) h ms m ys =
       guarded_by vs env false false t c (givens ms ++ ys) false e ∙ none_met vs ms ys (rests (suspend false true (tick vs t) c) (faults vs env c)) m
   walked vs env _ _ (of_weak_suspend _ t c q e k) h ms m ys =
       guarded_by vs env false true t c (givens ms ++ ys) false e
-      ∙ mapped (weak_guard false c (faults vs env c)) (walk vs env t (givens ms ++ ys)) ys (record q { met = ms }) (walked vs env t q k (both_true (is_typed vs c) (is_sound vs t) h).1 ms m ys)
+      ∙ mapped (weak_guard false c (faults vs env c)) (walk vs env t (givens ms ++ ys)) ys (record q { met = ms }) (walked vs env t q k (and_parts (is_typed vs c) (is_sound vs t) h).1 ms m ys)
   walked vs env _ _ (of_scope _ x s t v q l k) h ms m ys =
-      let f = both_true (fits_store vs x s) (is_sound vs t) (both_true (nat_lt x (length vs)) _ h).1 in
+      let f = and_parts (fits_store vs x s) (is_sound vs t) (and_parts (nat_lt x (length vs)) _ h).1 in
       let w = wanted_by vs x s q.acts in
       let c = cut vs ms (meetings x v w) q.met m in
       let g = given_meetings vs x c.front v w (wanted_length vs x s q.acts v l) c.fronts in
@@ -487,7 +478,7 @@ mutual
       → walk_each vs env ts (givens ms ++ ys) ≡ found_each ys (record p { met = ms })
   walked_each vs env _ _ (of_nobody _) h ms m ys = nobody_met vs ms ys (record { residuals = none; helds = none; acts = []; faults = []; met = []; ended = true }) m
   walked_each vs env _ _ (of_beside _ t ts q p k j) h ms m ys =
-      let f = both_true (is_sound vs t) (are_sound vs ts) h in
+      let f = and_parts (is_sound vs t) (are_sound vs ts) h in
       let c = cut vs ms q.met p.met m in
       ap (λ (l : List Met). walk_each vs env (part t ts) (givens l ++ ys)) c.whole
       ∙ ap (λ (l : List ℤ). walk_each vs env (part t ts) l) (givens_append c.front c.back ys)

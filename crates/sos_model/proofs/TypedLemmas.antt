@@ -9,14 +9,7 @@ use Rattle.quartz_expr.specs.Kinds.{kind_breaks}
 use Rattle.quartz_expr.specs.Intervals.{bound_breaks}
 use Rattle.quartz_expr.specs.Typed.{is_over, has_sound_bits, IsTyped}
 use Rattle.sos_model.specs.Sound.{HasTypedParts, is_typed, no_places}
-
-left_true : (a b : Bool) → (a && b) ≡ true → a ≡ true
-left_true true b h = refl
-left_true false b h = absurd (cc)
-
-right_true : (a b : Bool) → (a && b) ≡ true → b ≡ true
-right_true true b h = h
-right_true false b h = absurd (cc)
+use Rattle.quartz_expr.proofs.TruthLemmas.{and_left, and_right}
 
 left_empty : (ps qs : List Place) → ps ++ qs ≡ [] → ps ≡ []
 left_empty [] qs h = refl
@@ -28,7 +21,7 @@ right_empty (p ∷ ps) qs h = absurd (cc)
 
 typed_element : (vs : Vars) (x : ℕ) (i : Tree ℕ) (p : Place) → IsTyped vs (element x i p) → IsTyped vs i
 typed_element vs x i p h = record {
-  over = right_true (nat_lt x (length vs)) (is_over (length vs) i) h.over;
+  over = and_right (nat_lt x (length vs)) (is_over (length vs) i) h.over;
   written = h.written;
   kinds = right_empty _ (kind_breaks vs i) h.kinds;
   bounds = h.bounds;
@@ -39,40 +32,40 @@ typed_one vs op a p h = record { over = h.over; written = h.written; kinds = lef
 
 typed_left : (vs : Vars) (op : Binary) (a b : Tree ℕ) (p : Place) → IsTyped vs (two op a b p) → IsTyped vs a
 typed_left vs op a b p h = record {
-  over = left_true (is_over (length vs) a) (is_over (length vs) b) h.over;
-  written = left_true (has_sound_bits a) (has_sound_bits b) h.written;
+  over = and_left (is_over (length vs) a) (is_over (length vs) b) h.over;
+  written = and_left (has_sound_bits a) (has_sound_bits b) h.written;
   kinds = left_empty (kind_breaks vs a) _ h.kinds;
   bounds = left_empty (bound_breaks vs a) _ h.bounds;
 }
 
 typed_right : (vs : Vars) (op : Binary) (a b : Tree ℕ) (p : Place) → IsTyped vs (two op a b p) → IsTyped vs b
 typed_right vs op a b p h = record {
-  over = right_true (is_over (length vs) a) (is_over (length vs) b) h.over;
-  written = right_true (has_sound_bits a) (has_sound_bits b) h.written;
+  over = and_right (is_over (length vs) a) (is_over (length vs) b) h.over;
+  written = and_right (has_sound_bits a) (has_sound_bits b) h.written;
   kinds = left_empty (kind_breaks vs b) _ (right_empty (kind_breaks vs a) _ h.kinds);
   bounds = left_empty (bound_breaks vs b) _ (right_empty (bound_breaks vs a) _ h.bounds);
 }
 
 typed_cond : (vs : Vars) (c a b : Tree ℕ) (p : Place) → IsTyped vs (choice c a b p) → IsTyped vs c
 typed_cond vs c a b p h = record {
-  over = left_true (is_over (length vs) c) _ h.over;
-  written = left_true (has_sound_bits c) _ h.written;
+  over = and_left (is_over (length vs) c) _ h.over;
+  written = and_left (has_sound_bits c) _ h.written;
   kinds = left_empty (kind_breaks vs c) _ h.kinds;
   bounds = left_empty (bound_breaks vs c) _ h.bounds;
 }
 
 typed_yes : (vs : Vars) (c a b : Tree ℕ) (p : Place) → IsTyped vs (choice c a b p) → IsTyped vs a
 typed_yes vs c a b p h = record {
-  over = left_true (is_over (length vs) a) _ (right_true (is_over (length vs) c) _ h.over);
-  written = left_true (has_sound_bits a) _ (right_true (has_sound_bits c) _ h.written);
+  over = and_left (is_over (length vs) a) _ (and_right (is_over (length vs) c) _ h.over);
+  written = and_left (has_sound_bits a) _ (and_right (has_sound_bits c) _ h.written);
   kinds = left_empty (kind_breaks vs a) _ (right_empty (kind_breaks vs c) _ h.kinds);
   bounds = left_empty (bound_breaks vs a) _ (right_empty (bound_breaks vs c) _ h.bounds);
 }
 
 typed_no : (vs : Vars) (c a b : Tree ℕ) (p : Place) → IsTyped vs (choice c a b p) → IsTyped vs b
 typed_no vs c a b p h = record {
-  over = right_true (is_over (length vs) a) (is_over (length vs) b) (right_true (is_over (length vs) c) _ h.over);
-  written = right_true (has_sound_bits a) (has_sound_bits b) (right_true (has_sound_bits c) _ h.written);
+  over = and_right (is_over (length vs) a) (is_over (length vs) b) (and_right (is_over (length vs) c) _ h.over);
+  written = and_right (has_sound_bits a) (has_sound_bits b) (and_right (has_sound_bits c) _ h.written);
   kinds = left_empty (kind_breaks vs b) _ (right_empty (kind_breaks vs a) _ (right_empty (kind_breaks vs c) _ h.kinds));
   bounds = right_empty (bound_breaks vs a) (bound_breaks vs b) (right_empty (bound_breaks vs c) _ h.bounds);
 }
@@ -112,11 +105,11 @@ none_there (p ∷ ps) h = absurd (cc)
 
 pub typed_by_test : (vs : Vars) (e : Tree ℕ) → is_typed vs e ≡ true → IsTyped vs e
 typed_by_test vs e h =
-    let a = right_true (is_over (length vs) e) _ h in
-    let b = right_true (has_sound_bits e) _ a in
+    let a = and_right (is_over (length vs) e) _ h in
+    let b = and_right (has_sound_bits e) _ a in
     record {
-      over = left_true (is_over (length vs) e) _ h;
-      written = left_true (has_sound_bits e) _ a;
-      kinds = none_there (kind_breaks vs e) (left_true (no_places (kind_breaks vs e)) _ b);
-      bounds = none_there (bound_breaks vs e) (right_true (no_places (kind_breaks vs e)) _ b);
+      over = and_left (is_over (length vs) e) _ h;
+      written = and_left (has_sound_bits e) _ a;
+      kinds = none_there (kind_breaks vs e) (and_left (no_places (kind_breaks vs e)) _ b);
+      bounds = none_there (bound_breaks vs e) (and_right (no_places (kind_breaks vs e)) _ b);
     }

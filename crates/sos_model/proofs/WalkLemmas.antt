@@ -7,7 +7,6 @@ use Rattle.quartz_expr.specs.Values.{Values}
 use Rattle.quartz_expr.specs.Vars.{Vars}
 use Rattle.quartz_expr.specs.Terms.{Term, seq, par, Terms, none, part}
 use Rattle.quartz_expr.specs.React.{Reaction, Reactions, ends, goes_on, beside, together}
-use Rattle.quartz_expr.proofs.TypingLemmas.{both_true}
 use Rattle.sos_model.specs.declared.form.Form.{Form}
 use Rattle.sos_model.specs.declared.found.Found.{Found}
 use Rattle.sos_model.specs.declared.passed.Passed.{Passed}
@@ -17,6 +16,7 @@ use Rattle.sos_model.specs.Found.{Finds, reaction_of}
 use Rattle.sos_model.specs.Passed.{behind, behind_all, behind_walk, behind_walks}
 use Rattle.sos_model.specs.Sound.{is_sound, are_sound}
 use Rattle.sos_model.specs.Walk.{Walk, Walks, before_walks, found, on_reaction, stopped, together_walk, turned, walk, walk_all, walk_each}
+use Rattle.quartz_expr.proofs.TruthLemmas.{and_parts}
 
 -- ---- one form
 
@@ -44,12 +44,12 @@ part_at fs i f h e = ap (λ (l : List Form). terms (map term l)) (drop_more fs i
 sound_left : (vs : Vars) (fs : List Form) (i : ℕ) → are_sound vs (terms (map term fs)) ≡ true → are_sound vs (terms (map term (drop i fs))) ≡ true
 sound_left vs fs zero h = h
 sound_left vs [] (suc i) h = refl
-sound_left vs (f ∷ fs) (suc i) h = sound_left vs fs i (both_true (is_sound vs (term f)) _ h).1
+sound_left vs (f ∷ fs) (suc i) h = sound_left vs fs i (and_parts (is_sound vs (term f)) _ h).1
 
 pub sound_part : (vs : Vars) (fs : List Form) (i : ℕ) (f : Form) → i < length fs → f ≡ get_or fs i f → are_sound vs (terms (map term fs)) ≡ true → is_sound vs (term f) ≡ true
 sound_part vs fs i f h e k =
     let l : are_sound vs (part (term f) (terms (map term (drop (i + 1) fs)))) ≡ true = ap (are_sound vs) (sym (part_at fs i f h e)) ∙ sound_left vs fs i k in
-    (both_true (is_sound vs (term f)) _ l).0
+    (and_parts (is_sound vs (term f)) _ l).0
 
 pub drop_twice : {A : Type 0} (m n : ℕ) (xs : List A) → drop n (drop m xs) ≡ drop (m + n) xs
 drop_twice zero n xs = let e : n ≡ 0 + n = omega arith in ap (λ (k : ℕ). drop k xs) e

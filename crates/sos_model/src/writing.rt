@@ -3,81 +3,15 @@
 ghost use Rattle.std.specs.Prelude.{◌≡◌, ◌++◌, ◌∷◌, [], true, ℤ, List, IfOk, map, option_map, option_to_list};
 ghost use Rattle.quartz_tree.specs.Tree.{tree};
 ghost use Rattle.quartz_expr.specs.Faults.{is_index_below};
-ghost use Rattle.quartz_expr.specs.Intervals.{Lies, base_interval, is_in, is_sound_base as sound_base, is_sound_length as sound_length, range_of, span, type_interval};
+ghost use Rattle.quartz_expr.specs.Intervals.{Lies, is_in, range_of};
 ghost use Rattle.quartz_expr.specs.Typed.{AreSound, Fits, IsTyped, AllLie};
 ghost use Rattle.quartz_expr.specs.Vars.{count_of};
 ghost use Rattle.quartz_expr.specs.Writes.{act_if, in_range, target_faults, target_index, write_acts, write_faults};
 ghost use Rattle.sos_model.specs.Sound.{IsTypedIndex};
 
 use crate::faulting::{add_fault, add_faults, add_index_fault, names_element};
-use quartz_expr::{Act, Env, eval};
-use quartz_tree::{Base, Expr, Fault, Kind, NoMemory, Place, Ty, Var};
-
-// The whole numbers from `low` to `high`.
-#[derive(Clone, Copy)]
-struct Span {
-    low: i64,
-    high: i64,
-}
-
-fn is_sound_base(base: Base) -> bool
-    ensures { result ≡ sound_base base }
-{
-    match base {
-        Base::Bool => true,
-        Base::Nat(n) | Base::Int(n) => 1 <= n && n <= 1 << 31,
-        Base::Bv(n) => 1 <= n && n <= 32,
-    }
-}
-
-fn is_sound_length(len: Option<u128>) -> bool
-    ensures { result ≡ sound_length len }
-{
-    match len {
-        None => true,
-        Some(len) => 1 <= len && len <= 64,
-    }
-}
-
-fn base_range(base: Base) -> Span
-    requires { sound_base base ≡ true }
-    ensures { span result.low result.high ≡ base_interval base }
-{
-    match base {
-        Base::Bool => Span { low: 0, high: 1 },
-        Base::Nat(n) => Span {
-            low: 0,
-            high: n as i64 - 1,
-        },
-        Base::Int(n) => Span {
-            low: -(n as i64),
-            high: n as i64 - 1,
-        },
-        Base::Bv(n) => Span {
-            low: 0,
-            high: (1 << n as u32) - 1,
-        },
-    }
-}
-
-fn type_range(ty: Ty) -> Span
-    ensures { span result.low result.high ≡ type_interval ty }
-{
-    if is_sound_base(ty.base) && is_sound_length(ty.len) {
-        base_range(ty.base)
-    } else {
-        Span { low: 0, high: 0 }
-    }
-}
-
-fn range_in(vars: &[Var], var: u32) -> Span
-    ensures { span result.low result.high ≡ range_of vars.now var }
-{
-    match vars.get(var as usize) {
-        Some(variable) => type_range(variable.decl.ty),
-        None => Span { low: 0, high: 0 },
-    }
-}
+use quartz_expr::{Act, Env, eval, range_in};
+use quartz_tree::{Expr, Fault, Kind, NoMemory, Place, Var};
 
 /// Whether a value lies in the variable's range.
 pub(crate) fn is_in_range(vars: &[Var], var: u32, value: i64) -> bool

@@ -14,18 +14,12 @@ use Rattle.statement_cells.specs.Sound as cells
 use Rattle.sos_model.specs.Sound.{are_sound, fits_store, is_sound, is_typed, is_typed_index, no_places}
 use Rattle.sos_rows.specs.Laws.{TypedBodiesReact}
 use Rattle.typed_terms.proofs.TypedLemmas.{typed_is_sound}
+use Rattle.quartz_expr.proofs.TruthLemmas.{and_intro}
+use Rattle.quartz_expr.proofs.RangeLemmas.{lies_in}
 
 no_places_left : (ps : List Place) → ps ≡ [] → no_places ps ≡ true
 no_places_left [] e = refl
 no_places_left (p ∷ ps) e = absurd (cc)
-
-both : (a b : Bool) → a ≡ true → b ≡ true → (a && b) ≡ true
-both true true e f = refl
-both true false e f = absurd (cc)
-both false b e f = absurd (cc)
-
-within : (i : Interval) (z : ℤ) → Lies i z → is_in i z ≡ true
-within i z h = let above = h.above in let below = h.below in grind (arith, ints, above, below)
 
 negated : (b : Bool) → b ≡ false → not b ≡ true
 negated false e = refl
@@ -33,7 +27,7 @@ negated true e = absurd (cc)
 
 module _ (vs : Vars) where
   typed_test : (e : Tree ℕ) → IsTyped vs e → is_typed vs e ≡ true
-  typed_test e h = both _ _ h.over (both _ _ h.written (both _ _ (no_places_left _ h.kinds) (no_places_left _ h.bounds)))
+  typed_test e h = and_intro _ _ h.over (and_intro _ _ h.written (and_intro _ _ (no_places_left _ h.kinds) (no_places_left _ h.bounds)))
 
   index_test : (x : ℕ) (i : Option (Tree ℕ)) → cells.IsTypedIndex vs x i → is_typed_index vs i ≡ true
   index_test x None h = refl
@@ -46,19 +40,19 @@ module _ (vs : Vars) where
     can_react : (t : Term) → cells.IsSound vs t → is_sound vs t ≡ true
     can_react nothing h = refl
     can_react pause h = refl
-    can_react (write x i e d p q) h = both _ _ (named x h.0) (both _ _ (index_test x i h.1) (typed_test e h.2))
-    can_react (choose c a b) h = both _ _ (typed_test c h.0) (both _ _ (can_react a h.1) (can_react b h.2))
+    can_react (write x i e d p q) h = and_intro _ _ (named x h.0) (and_intro _ _ (index_test x i h.1) (typed_test e h.2))
+    can_react (choose c a b) h = and_intro _ _ (typed_test c h.0) (and_intro _ _ (can_react a h.1) (can_react b h.2))
     can_react (seq ts) h = all_react ts h
     can_react (par ts) h = all_react ts h
-    can_react (loop t c) h = both _ _ (negated (is_instant t) h.0) (both _ _ (typed_test c h.1) (can_react t h.2))
-    can_react (abort w i t c) h = both _ _ (typed_test c h.0) (can_react t h.1)
-    can_react (suspend w i t c) h = both _ _ (typed_test c h.0) (can_react t h.1)
-    can_react (scope x None t) h = both _ _ (named x h.0) (both _ _ (within _ _ h.2) (can_react t h.3))
+    can_react (loop t c) h = and_intro _ _ (negated (is_instant t) h.0) (and_intro _ _ (typed_test c h.1) (can_react t h.2))
+    can_react (abort w i t c) h = and_intro _ _ (typed_test c h.0) (can_react t h.1)
+    can_react (suspend w i t c) h = and_intro _ _ (typed_test c h.0) (can_react t h.1)
+    can_react (scope x None t) h = and_intro _ _ (named x h.0) (and_intro _ _ (lies_in _ _ h.2) (can_react t h.3))
     can_react (scope x (Some s) t) h = absurd h.1
 
     all_react : (ts : Terms) → cells.AreSound vs ts → are_sound vs ts ≡ true
     all_react none h = refl
-    all_react (part t ts) h = both _ _ (can_react t h.0) (all_react ts h.1)
+    all_react (part t ts) h = and_intro _ _ (can_react t h.0) (all_react ts h.1)
 
 pub typed_can_react : TypedBodiesReact
 typed_can_react t =

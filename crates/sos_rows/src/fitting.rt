@@ -5,8 +5,7 @@ ghost use Rattle.quartz_expr.specs.Intervals.{span, type_interval};
 ghost use Rattle.quartz_expr.specs.Typed.{AllLie, Fits};
 ghost use Rattle.quartz_expr.specs.Values.{elements_in};
 
-use quartz_expr::Env;
-use quartz_names::type_range;
+use quartz_expr::{Env, type_range};
 use quartz_tree::{Ty, Var};
 
 fn all_lie(elements: &[i64], low: i64, high: i64) -> bool

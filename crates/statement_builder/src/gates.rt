@@ -7,8 +7,7 @@ ghost use Rattle.statement_builder.specs.Built.{Makes};
 ghost use Rattle.statement_builder.specs.Shorts.{is_zero as plain_is_zero, literal_of, negated as plain_negated, short};
 
 use crate::builder::Builder;
-use aif_cells::{Ref, Tree, TreeOne, TreeTwo, add_cell};
-use expression_cells::reference_in;
+use aif_cells::{Ref, Tree, TreeOne, TreeTwo, add_cell, reference_in};
 use quartz_tree::{NoMemory, Place};
 use std::alloc::Global;
 

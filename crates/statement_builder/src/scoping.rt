@@ -1,10 +1,8 @@
 //! Copies of the variables of scopes: they are opened with reserved value cells, and closed from the writes to them.
 
-ghost use Rattle.std.specs.Prelude.{◌≡◌, ◌+◌, ◌*◌, ◌<◌, ◌^◌, ◌++◌, [], ◌∷◌, length, map, option_map, replicate, slice_get, slice_set, Some, true, IfOk, OnOk, IsTrue};
+ghost use Rattle.std.specs.Prelude.{◌≡◌, ◌+◌, ◌*◌, ◌<◌, ◌^◌, length, option_map, slice_get, slice_set, Some, true, IfOk};
 ghost use Rattle.quartz_expr.specs.Vars.{count_of, declared_at};
-ghost use Rattle.aif_cells.specs.Built.{all_defined};
 ghost use Rattle.absence_reaction.specs.Closing.{AreBelow};
-ghost use Rattle.reincarnation.specs.Entering.{numbers_from, reserved};
 ghost use Rattle.statement_builder.specs.Built.{IsOver};
 ghost use Rattle.statement_builder.specs.Scopes.{Closes, Opens, fresh_open, restored_open};
 
@@ -12,9 +10,9 @@ use crate::builder::{Builder, OpenVar};
 use crate::counting::count_elements;
 use crate::gates::plus;
 use absence_reaction::{VarCopy, close};
-use aif_cells::{Cell, Made, Ref, Tree, add_cell};
+use aif_cells::Made;
 use quartz_tree::{NoMemory, Place, Var};
-use reincarnation::ClosedRefs;
+use reincarnation::{ClosedRefs, cell_refs, reserve};
 use sqlite_items::Items;
 use statement_cells::Current;
 use std::alloc::Global;
@@ -40,45 +38,6 @@ fn declared_place(vars: &[Var], var: u32) -> Place
         Some(var) => var.decl.place,
         None => Place { line: 0, col: 0 },
     }
-}
-
-// A reserved cell behind all others, by its number.
-fn reserve_one(cells: &mut Items<Cell>, place: Place) -> Result<u32, NoMemory>
-    ensures number { IfOk result (λ n. n ≡ length cells.old) }
-    ensures cells { OnOk result (all_defined cells.new ≡ all_defined cells.old ++ reserved place ∷ []) }
-{
-    let Ref::Cell(cell) = add_cell(cells, Tree::Value(Ref::Lit(0)), place)? else {
-        return Err(NoMemory);
-    };
-    Ok(cell)
-}
-
-// So many reserved cells behind all others, by their numbers.
-fn reserve(
-    alloc: Global,
-    cells: &mut Items<Cell>,
-    place: Place,
-    count: u128,
-) -> Result<Items<u32>, NoMemory>
-    ensures numbers { IfOk result (λ ns. ns ≡ numbers_from (length cells.old) count) }
-    ensures cells { OnOk result (all_defined cells.new ≡ all_defined cells.old ++ replicate count (reserved place)) }
-{
-    let mut numbers = Items::new(alloc);
-    for _element in 0..count {
-        numbers.push(reserve_one(cells, place)?)?;
-    }
-    Ok(numbers)
-}
-
-// The references of cells.
-fn cell_refs(alloc: Global, cells: &[u32]) -> Result<Items<Ref>, NoMemory>
-    ensures { IfOk result (λ rs. rs ≡ map Ref.Cell cells.now) }
-{
-    let mut references = Items::new(alloc);
-    for cell in cells {
-        references.push(Ref::Cell(*cell))?;
-    }
-    Ok(references)
 }
 
 // Another current copy of a variable takes the place of the one before.

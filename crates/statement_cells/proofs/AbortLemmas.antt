@@ -16,10 +16,7 @@ use Rattle.statement_cells.proofs.BoolLemmas.{and_false, and_true, or_false, or_
 use Rattle.statement_cells.proofs.MarkLemmas.{some_none}
 use Rattle.statement_cells.proofs.ReactLemmas.{before_end}
 use Rattle.statement_cells.proofs.RunLemmas.{raises, faults_if, bounds, ranges, Enters, Proceeds, told}
-
-pub and_assoc : (a b c : Bool) → ((a && b) && c) ≡ (a && (b && c))
-and_assoc true b c = refl
-and_assoc false b c = refl
+use Rattle.quartz_expr.proofs.TruthLemmas.{and_assoc}
 
 -- among no marks none is 1
 pub nowhere_on : (l n : ℕ) (P : Type 0) → some no_marks l n ≡ true → P

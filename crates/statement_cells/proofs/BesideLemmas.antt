@@ -14,6 +14,7 @@ use Rattle.statement_cells.proofs.ReactLemmas.{held_fresh}
 use Rattle.statement_cells.proofs.RunLemmas.{bounds, ranges, range_two, Enters, Proceeds, idle_free}
 use Rattle.statement_cells.proofs.AbortLemmas.{nowhere_on}
 use Rattle.statement_cells.proofs.ParLemmas.{free_before, LiveEach, IdleEach, nothing_in, nobody_lives, one_more, all_live, rested, nothing_lives}
+use Rattle.quartz_expr.proofs.TruthLemmas.{and_assoc}
 
 -- ---- where all parts end
 
@@ -34,10 +35,6 @@ all_true (r ∷ rs) = r && all_true rs
 abbrev pub AllFalse : List Bool → Type 0
 AllFalse [] = Unit {0}
 AllFalse (r ∷ rs) = (r ≡ false) × AllFalse rs
-
-and_assoc : (a b c : Bool) → ((a && b) && c) ≡ (a && (b && c))
-and_assoc true b c = refl
-and_assoc false b c = refl
 
 and_true : (a : Bool) → (a && true) ≡ a
 and_true true = refl

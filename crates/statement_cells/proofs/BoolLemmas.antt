@@ -2,6 +2,7 @@
 use Rattle.std.proofs.Common.{◌≡◌, ℤ, pos, negsuc, zero, suc, Bool, true, false, not, ◌&&◌, ◌||◌, refl}
 use Rattle.quartz_expr.specs.Values.{is_zero}
 use Rattle.aif_cells.specs.Worth.{holds}
+use Rattle.quartz_expr.proofs.TruthLemmas.{and_intro, and_left, and_right}
 
 pub and_false : (a : Bool) → (a && false) ≡ false
 and_false true = refl
@@ -18,18 +19,6 @@ or_false false = refl
 pub or_true : (a : Bool) → (a || true) ≡ true
 or_true true = refl
 or_true false = refl
-
-pub and_left : (a b : Bool) → (a && b) ≡ true → a ≡ true
-and_left true b h = refl
-and_left false b h = absurd (cc)
-
-pub and_right : (a b : Bool) → (a && b) ≡ true → b ≡ true
-and_right true b h = h
-and_right false b h = absurd (cc)
-
-pub and_intro : (a b : Bool) → a ≡ true → b ≡ true → (a && b) ≡ true
-and_intro true b g h = h
-and_intro false b g h = absurd (cc)
 
 pub not_true : (a : Bool) → not a ≡ true → a ≡ false
 not_true true h = absurd (cc)

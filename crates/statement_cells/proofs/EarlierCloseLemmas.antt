@@ -19,18 +19,9 @@ use Rattle.statement_cells.specs.Walk.{cells_of}
 use Rattle.statement_cells.specs.Earlier.{HoldsBelow, IsOrdered}
 use Rattle.statement_cells.proofs.EarlierLemmas.{GoesTo}
 use Rattle.statement_cells.proofs.EarlierMoreLemmas.{holds_more, refs_more}
+use Rattle.quartz_expr.proofs.TruthLemmas.{or_left, or_right}
 
 -- ---- truth values
-
--- of two that are false together the first one is false
-pub first_false : (a b : Bool) → (a || b) ≡ false → a ≡ false
-first_false true b e = absurd (cc)
-first_false false b e = refl
-
--- and so is the second one
-pub second_false : (a b : Bool) → (a || b) ≡ false → b ≡ false
-second_false true b e = absurd (cc)
-second_false false b e = e
 
 -- ---- the actions on the variable
 

@@ -20,6 +20,7 @@ use Rattle.statement_cells.specs.Builder.{Builder, Entry, Made, Reserved, Short,
 use Rattle.statement_cells.specs.Earlier.{AreCopiesThere, HoldsBelow, IsOrdered, IsRefThere}
 use Rattle.statement_cells.proofs.EarlierTreeLemmas.{Below, TestsBelow}
 use Rattle.statement_cells.proofs.EarlierMoreLemmas.{copies_more, holds_more, monitors_more, ref_more, tests_more}
+use Rattle.absence_reaction.proofs.EarlierLemmas.{get_new, the_one}
 
 -- ---- later builders
 
@@ -85,15 +86,6 @@ pub register_held : {β : Builder} (i : ℕ) → Held β (ref.Reg i)
 register_held {β = β} i = record { below = All-nil (λ d. d < length β.cells) }
 
 -- ---- a new cell
-
--- the last one
-get_new : (xs : List Defined) (x : Defined) → slice_get (xs ++ x ∷ []) (length xs) ≡ Some x
-get_new [] x = refl
-get_new (y ∷ xs) x = get_new xs x
-
--- what is found is one thing
-the_one : (x c : Defined) → Some x ≡ Some c → x ≡ c
-the_one x c e = cc
 
 -- a cell depends on what it did, or it is the new one
 pub split : (cs : List Defined) (x : Defined) (k d : ℕ) → Below (length cs) x.tree → DependsOn (cs ++ x ∷ []) k d → DependsOn cs k d ⊎ ((k ≡ length cs) × (d < length cs))

@@ -26,23 +26,13 @@ use Rattle.statement_cells.specs.Earlier.{ActivityIsBelow, HoldsBelow, IsOrdered
 use Rattle.statement_cells.proofs.ScopeGrowLemmas.{cells_both, cells_reserved, reserve_longer}
 use Rattle.statement_cells.proofs.ScopeCopyLemmas.{distinct_numbers}
 use Rattle.statement_cells.proofs.ScopeEndLemmas.{started_is, started_with}
-use Rattle.statement_cells.proofs.EarlierCloseLemmas.{CanClose, closed_goes, closed_refs_below, first_false, second_false, written_below}
+use Rattle.statement_cells.proofs.EarlierCloseLemmas.{CanClose, closed_goes, closed_refs_below, written_below}
 use Rattle.statement_cells.proofs.EarlierLemmas.{CopiesHeld, Goes, GoesTo, Held, Later, and_goes, behind, follows, here, not_goes, same, up}
 use Rattle.statement_cells.proofs.EarlierMoreLemmas.{activity_more, actions_more, closed_more, holds_more, scopes_more}
+use Rattle.quartz_expr.proofs.TruthLemmas.{or_left, or_right}
+use Rattle.reincarnation.proofs.MeaningLemmas.{last_is}
 
 -- ---- reserved cells
-
--- each copy is the same
-copied : (n k : ℕ) (x c : Defined) → slice_get (replicate n x) k ≡ Some c → x ≡ c
-copied zero k x c e = absurd (cc)
-copied (suc n) zero x c e = cc
-copied (suc n) (suc k) x c e = copied n k x c e
-
--- what stands behind is a copy
-last_is : (xs : List Defined) (n k : ℕ) (x c : Defined) → length xs ≤ k → slice_get (xs ++ replicate n x) k ≡ Some c → x ≡ c
-last_is [] n k x c le e = copied n k x c e
-last_is (y ∷ xs) n zero x c le e = absurd (omega (arith, le))
-last_is (y ∷ xs) n (suc k) x c le e = last_is xs n k x c (omega (arith, le)) e
 
 -- nothing stands in an empty list
 no_contents : (d : ℕ) → Contains [] d → ⊥
@@ -86,7 +76,7 @@ module _ (vs : Vars) (x : ℕ) where
       record {
         later = record { longer = omega (arith, reserve_longer vs x stored β); more = reserved_cells x (new_cells vs x β); reserved = refl };
         built = record {
-          before = λ k d e dep. w.before k d (first_false (is_among k (cells_of β.reserved)) (is_among k (cells_of (reserved_cells x (new_cells vs x β)))) (sym (cells_both β.reserved (reserved_cells x (new_cells vs x β)) k) ∙ e))
+          before = λ k d e dep. w.before k d (or_left (is_among k (cells_of β.reserved)) (is_among k (cells_of (reserved_cells x (new_cells vs x β)))) (sym (cells_both β.reserved (reserved_cells x (new_cells vs x β)) k) ∙ e))
               (reserved_names β.cells (count_of vs x) (declared_at vs x) k d dep);
           there = record {
             named = λ k d dep. up.named k d (reserved_names β.cells (count_of vs x) (declared_at vs x) k d dep);
@@ -107,7 +97,7 @@ module _ (vs : Vars) (x : ℕ) where
   unfolding reserve
   among_new stored β k e =
       let its = reserved_cells x (new_cells vs x β) in
-      sym (ap (is_among k) (cells_reserved x (new_cells vs x β))) ∙ second_false (is_among k (cells_of β.reserved)) (is_among k (cells_of its)) (sym (cells_both β.reserved its k) ∙ e)
+      sym (ap (is_among k) (cells_reserved x (new_cells vs x β))) ∙ or_right (is_among k (cells_of β.reserved)) (is_among k (cells_of its)) (sym (cells_both β.reserved its k) ∙ e)
 
   -- the new copy is there
   pub entering_held : (stored : Bool) (κ : Copies) (β : Builder) → CopiesHeld (reserve vs x stored β) κ → CopiesHeld (reserve vs x stored β) (entering vs x κ β)
@@ -142,7 +132,7 @@ module _ (vs : Vars) (x : ℕ) where
     }
       where
         apart : (k : ℕ) → is_among k (cells_of inner.reserved) ≡ false → is_among k (new_cells vs x β) ≡ false
-        apart k e = among_new stored β k (first_false (is_among k (cells_of (reserve vs x stored β).reserved)) (is_among k (cells_of g.more)) (sym (cells_both (reserve vs x stored β).reserved g.more k) ∙ (sym (ap (λ r. is_among k (cells_of r)) g.reserved) ∙ e)))
+        apart k e = among_new stored β k (or_left (is_among k (cells_of (reserve vs x stored β).reserved)) (is_among k (cells_of g.more)) (sym (cells_both (reserve vs x stored β).reserved g.more k) ∙ (sym (ap (λ r. is_among k (cells_of r)) g.reserved) ∙ e)))
 
     -- the closed copy is there
     pub close_refs : ClosedIsBelow (length (close_scope vs x stored v active β inner).built.cells) (close_scope vs x stored v active β inner).refs

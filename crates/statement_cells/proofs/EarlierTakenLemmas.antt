@@ -28,6 +28,7 @@ use Rattle.statement_cells.proofs.EarlierTreeLemmas.{Below}
 use Rattle.statement_cells.proofs.EarlierLemmas.{Goes, Later, and_goes, follows, here, literal_held, new_goes, register_held, same}
 use Rattle.statement_cells.proofs.EarlierMoreLemmas.{all_more, closed_more, entered_more, ref_more}
 use Rattle.statement_cells.proofs.EarlierSurfaceLemmas.{AllHeld, first_held, none_held, one_held, others_held, up_all}
+use Rattle.absence_reaction.proofs.EarlierLemmas.{or_below}
 
 -- ---- registers
 
@@ -74,12 +75,6 @@ module _ (n : ℕ) where
       (both_nexts (outputs_registers vs xs) last (outputs_nexts vs xs) (alike_nexts (registers vs t) (pos 0))))
 
 -- ---- joins
-
--- `or` names what its parts do
-or_below : (n : ℕ) (ts : List Tree) → All (Below n) ts → Below n (or_all ts)
-or_below n [] h = All-nil (λ d. d < n)
-or_below n (t ∷ []) h = All-head (Below n) t [] h
-or_below n (t ∷ u ∷ us) h = All-append (λ d. d < n) (cells_in t) (cells_in (or_all (u ∷ us))) (All-head (Below n) t (u ∷ us) h) (or_below n (u ∷ us) (All-tail (Below n) t (u ∷ us) h))
 
 -- what is made of a builder's cells, and the builder behind it
 abbrev made_in : Builder → MadeCells → Made

@@ -28,10 +28,11 @@ use Rattle.statement_cells.proofs.ScopeCopyLemmas.{distinct_numbers}
 use Rattle.statement_cells.proofs.EarlierTreeLemmas.{CopiesBelow}
 use Rattle.statement_cells.proofs.EarlierLemmas.{CopiesHeld, Later, follows, literal_held, register_held, same, up_copies}
 use Rattle.statement_cells.proofs.EarlierMoreLemmas.{closed_more}
-use Rattle.statement_cells.proofs.EarlierCloseLemmas.{CanClose, closed_goes, closed_refs_below, first_false, written_below}
+use Rattle.statement_cells.proofs.EarlierCloseLemmas.{CanClose, closed_goes, closed_refs_below, written_below}
 use Rattle.statement_cells.proofs.EarlierScopeLemmas.{among_new, reserve_goes, row_below, set_below}
 use Rattle.statement_cells.proofs.EarlierSurfaceLemmas.{surface_goes}
 use Rattle.statement_cells.proofs.EarlierDepthLemmas.{depth_goes}
+use Rattle.quartz_expr.proofs.TruthLemmas.{or_left}
 
 -- ---- the copies at the start
 
@@ -100,7 +101,7 @@ distinct_more n m (k ∷ ks) le h = (omega (arith, h.0, le), h.1, distinct_more 
 up_output : {β γ : Builder} {o : OutputCopy} → Later β γ → OutputHeld β o → OutputHeld γ o
 up_output {β = β} {γ = γ} {o = o} g h = record {
   distinct = distinct_more (length β.cells) (length γ.cells) o.cells g.longer h.distinct;
-  reserved = λ k e. h.reserved k (first_false (is_among k (cells_of β.reserved)) (is_among k (cells_of g.more)) (sym (cells_both β.reserved g.more k) ∙ (sym (ap (λ r. is_among k (cells_of r)) g.reserved) ∙ e)));
+  reserved = λ k e. h.reserved k (or_left (is_among k (cells_of β.reserved)) (is_among k (cells_of g.more)) (sym (cells_both β.reserved g.more k) ∙ (sym (ap (λ r. is_among k (cells_of r)) g.reserved) ∙ e)));
 }
 
 -- and so do those of all outputs

@@ -19,9 +19,10 @@ use Rattle.statement_cells.proofs.TrailLemmas.{mark}
 use Rattle.statement_cells.proofs.ReactLemmas.{held_fresh}
 use Rattle.statement_cells.proofs.PlainLemmas.{plain_fresh, plain_tick_fresh}
 use Rattle.statement_cells.proofs.RunLemmas.{raises, faults_if, bounds, ranges, Enters, Proceeds, told, idle_free, first_only, second_only, begun}
-use Rattle.statement_cells.proofs.AbortLemmas.{and_assoc, nowhere_on}
+use Rattle.statement_cells.proofs.AbortLemmas.{nowhere_on}
 use Rattle.statement_cells.proofs.SleepLemmas.{stays_with, stays_spared, stays_idle, asleep}
 use Rattle.statement_cells.proofs.WaitLemmas.{waits, some_next, mark_none, mark_own, mark_after, range_wait, all_stay, body_at, body_held, body_ticked, awake_in, idle_wait}
+use Rattle.quartz_expr.proofs.TruthLemmas.{and_assoc}
 
 -- ---- start
 

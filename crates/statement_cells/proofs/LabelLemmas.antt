@@ -23,6 +23,7 @@ use Rattle.statement_cells.specs.Meaning.{next_of}
 use Rattle.statement_cells.proofs.BoolLemmas.{and_false, or_assoc}
 use Rattle.statement_cells.proofs.CellLemmas.{and_short, pick_truth}
 use Rattle.statement_cells.proofs.WholeLemmas.{Kept, join_kept, label_only, labels_only, staying_only}
+use Rattle.reincarnation.proofs.MeaningLemmas.{with_other}
 
 -- ---- registers
 
@@ -30,13 +31,6 @@ pub length_with : (rs : List Register) (r : ℕ) (n : Ref) → length (with_next
 length_with [] r n = refl
 length_with (x ∷ rs) zero n = refl
 length_with (x ∷ rs) (suc r) n = ap suc (length_with rs r n)
-
-pub with_other : (rs : List Register) (r : ℕ) (n : Ref) (q : ℕ) → (q < r) ⊎ (r + 1 ≤ q) → slice_get (with_next rs r n) q ≡ slice_get rs q
-with_other [] r n q h = refl
-with_other (x ∷ xs) zero n zero h = absurd (elim h [ inl a ↦ omega (arith, a) | inr b ↦ omega (arith, b) ])
-with_other (x ∷ xs) zero n (suc q) h = refl
-with_other (x ∷ xs) (suc r) n zero h = refl
-with_other (x ∷ xs) (suc r) n (suc q) h = with_other xs r n q (elim h [ inl a ↦ inl (omega (arith, a)) | inr b ↦ inr (omega (arith, b)) ])
 
 pub labels_others : (n l : ℕ) (rs : List Register) (β : Builder) (q : ℕ) → (q < l) ⊎ (l + n ≤ q) → slice_get (labels_taken l n rs β).0 q ≡ slice_get rs q
 labels_others zero l rs β q h = refl

@@ -18,33 +18,22 @@ use Rattle.quartz_expr.specs.Resolve.{absence, first_of_all, given_store, others
 use Rattle.quartz_expr.specs.Terms.{Store, Term, nothing, pause, write, choose, seq, par, loop, abort, suspend, scope, Terms, none, part}
 use Rattle.quartz_expr.specs.React.{Met, Reaction, Reactions, React, ReactEach, meetings, store_of, of_nothing, of_pause, of_write, of_yes, of_no, of_none, of_turn, of_stop, of_par, of_loop, of_delayed_abort, of_delayed_suspend, of_spared_abort, of_spared_suspend, of_strong_abort, of_weak_abort, of_strong_suspend, of_weak_suspend, of_scope, of_nobody, of_beside}
 use Rattle.absence_reaction.specs.Meaning.{or_nought, pendings_of}
+use Rattle.quartz_expr.proofs.TruthLemmas.{and_left}
+use Rattle.quartz_expr.proofs.RangeLemmas.{in_lies, base_has_zero}
 
 -- ---- ranges
-
-zero_in : (b : Base) → is_sound_base b ≡ true → Lies (base_interval b) (pos 0)
-zero_in base.Bool e = record { above = omega (arith, ints); below = omega (arith, ints) }
-zero_in (base.Nat n) e = let h : 1 ≤ n = grind (arith, nat_tests, e) in record { above = omega (arith, ints); below = omega (arith, ints) }
-zero_in (base.Int n) e = let h : 1 ≤ n = grind (arith, nat_tests, e) in record { above = omega (arith, ints); below = omega (arith, ints) }
-zero_in (base.Bv n) e = record { above = omega (arith, ints); below = omega (arith, ints) }
-
-sound_base : (a b : Bool) → (a && b) ≡ true → a ≡ true
-sound_base true b e = refl
-sound_base false b e = absurd (cc)
 
 -- 0 lies in every range
 pub zero_lies : (vs : Vars) (x : ℕ) → Lies (range_of vs x) (pos 0)
 zero_lies vs x = at (slice_get vs x) refl
   where
     if_sound : (b : Bool) (t : Ty) → is_sound_type t ≡ b → Lies (sound_or_nought b (base_interval t.base)) (pos 0)
-    if_sound true t e = zero_in t.base (sound_base (is_sound_base t.base) _ e)
+    if_sound true t e = base_has_zero t.base (and_left (is_sound_base t.base) _ e)
     if_sound false t e = record { above = omega (arith, ints); below = omega (arith, ints) }
 
     at : (o : Option Var) → slice_get vs x ≡ o → Lies (range_of vs x) (pos 0)
     at None e = rw e (record { above = omega (arith, ints); below = omega (arith, ints) })
     at (Some v) e = rw e (if_sound (is_sound_type v.decl.ty) v.decl.ty refl)
-
-pub in_lies : (i : Interval) (z : ℤ) → is_in i z ≡ true → Lies i z
-in_lies i z e = record { above = grind (arith, ints, e); below = grind (arith, ints, e) }
 
 pub in_range_lies : (vs : Vars) (x : ℕ) (z : ℤ) → Lies (range_of vs x) (in_range vs x z)
 in_range_lies vs x z = at (is_in (range_of vs x) z) refl

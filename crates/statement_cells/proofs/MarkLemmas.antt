@@ -9,6 +9,7 @@ use Rattle.statement_cells.specs.Labels.{labels, labels_all, registers, scope_re
 use Rattle.statement_cells.specs.Stands.{Marks, Registers, some, at, at_in_turn, at_each, AtOne, AtOneInTurn, AtOneEach, store_in}
 use Rattle.statement_cells.specs.Walk.{no_marks, union, MarksIn, TakesIn, Takes, no_takes, or_else, else_takes, is_within, kept_marks, Holds}
 use Rattle.statement_cells.proofs.BoolLemmas.{and_false, or_false, or_assoc}
+use Rattle.quartz_expr.proofs.TruthLemmas.{or_left, or_right}
 
 -- ---- labels of a range
 
@@ -36,14 +37,6 @@ some_after m l n k w = some_free m (l + n) k (λ i p q. w.above i p)
 
 pub some_before : (m : Marks) (l n k : ℕ) → MarksIn (l + n) k m → some m l n ≡ false
 some_before m l n k w = some_free m l n (λ i p q. w.below i q)
-
-pub or_left : (a b : Bool) → (a || b) ≡ false → a ≡ false
-or_left false b h = refl
-or_left true b h = absurd (cc)
-
-pub or_right : (a b : Bool) → (a || b) ≡ false → b ≡ false
-or_right false b h = h
-or_right true b h = absurd (cc)
 
 pub free_left : (m : Marks) (l n k : ℕ) → some m l (n + k) ≡ false → some m l n ≡ false
 free_left m l n k h = or_left (some m l n) (some m (l + n) k) (sym (some_split m l n k) ∙ h)
@@ -138,7 +131,7 @@ or_else_none : (a : Option ℤ) → or_else a None ≡ a
 or_else_none (Some z) = refl
 or_else_none None = refl
 
-or_else_assoc : (a b c : Option ℤ) → or_else (or_else a b) c ≡ or_else a (or_else b c)
+pub or_else_assoc : (a b c : Option ℤ) → or_else (or_else a b) c ≡ or_else a (or_else b c)
 or_else_assoc (Some z) b c = refl
 or_else_assoc None b c = refl
 

@@ -14,6 +14,7 @@ use Rattle.statement_cells.proofs.BoolLemmas.{or_false, or_true}
 use Rattle.statement_cells.proofs.MarkLemmas.{some_split, some_none, at_one_free, marks_none, takes_none, holds_first, holds_second, kept_free, kept_split, Agree, some_agree, at_agree, at_each_agree, at_one_agree, at_one_each_agree}
 use Rattle.statement_cells.proofs.ReactLemmas.{leaves, before_end}
 use Rattle.statement_cells.proofs.RunLemmas.{resolved_left, resolved_right, InRange, bounds, ranges, range_two}
+use Rattle.quartz_expr.proofs.TruthLemmas.{and_parts}
 
 -- ---- registers of two ranges
 
@@ -96,10 +97,6 @@ pub record IdleEach (vs : Vars) (m : Marks) (now : Registers) (l v : ℕ) (ss : 
   pub held : (k : Registers) → Holds o.defaults k → at_each vs m k l v ss ≡ plain_all vs (tick_all vs (at_each vs m now l v ss))
   pub bounded : InRange m l (labels_all ss) v (registers_all vs ss) o
 
-pub both_true : (a b : Bool) → (a && b) ≡ true → (a ≡ true) × (b ≡ true)
-both_true true b h = (refl, h)
-both_true false b h = absurd (cc)
-
 pub nothing_in : (m : Marks) (l n v r : ℕ) → InRange m l n v r no_trail
 nothing_in m l n v r = (marks_none l n, takes_none v r, takes_none v r, λ f. refl)
 
@@ -132,7 +129,7 @@ module _ (vs : Vars) (env : Values) (m : Marks) where
     acts = ap₂ (λ x y. x ++ y) h.acts i.acts;
     met = ap₂ (λ x y. x ++ y) h.met i.met;
     faults = λ all. ap₂ (λ x y. x ++ y) (h.faults (resolved_left a.met b.met all)) (i.faults (resolved_right a.met b.met all));
-    stops = λ x y. let e = both_true ea eb y in let f = h.stops x e.0 in let g = i.stops x e.1 in (ap₂ union f.0 g.0, ap₂ else_takes f.1 g.1);
+    stops = λ x y. let e = and_parts ea eb y in let f = h.stops x e.0 in let g = i.stops x e.1 in (ap₂ union f.0 g.0, ap₂ else_takes f.1 g.1);
     alive = λ x y. some_split (union a.marks b.marks) l (labels s) (labels_all ss) ∙ ap₂ (λ x y. x || y) near far ∙ one_lives ea eb y (λ p. (h.goes x p).0) (λ p. i.alive x p);
     goes = λ x.
         let own = lives ea refl x in

@@ -13,7 +13,7 @@ use Rattle.absence_reaction.specs.Closing.{is_memorized, register_of}
 use Rattle.statement_cells.specs.Labels.{labels, registers, scope_registers, shape_in}
 use Rattle.statement_cells.specs.Stands.{Marks, Registers, some, plain, plain_all, plain_kept, plain_store, kept_in, kept_from, store_in, at, at_in_turn, at_each}
 use Rattle.statement_cells.specs.Sound.{IsSound, AreSound}
-use Rattle.statement_cells.proofs.BoolLemmas.{and_left, and_right, and_intro}
+use Rattle.quartz_expr.proofs.TruthLemmas.{and_intro, and_left, and_right}
 
 -- ---- terms without stores
 

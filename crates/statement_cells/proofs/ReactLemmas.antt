@@ -5,7 +5,7 @@ use Rattle.quartz_expr.specs.Vars.{Vars}
 use Rattle.quartz_expr.specs.Terms.{Term, nothing, seq, par, abort, suspend, Terms, none, part, is_fresh, are_fresh}
 use Rattle.quartz_expr.specs.React.{Reaction, Reactions, unless_ended, sequence, ends, goes_on, React, ReactEach, of_nothing, of_pause, of_write, of_yes, of_no, of_none, of_turn, of_stop, of_par, of_loop, of_delayed_abort, of_delayed_suspend, of_spared_abort, of_spared_suspend, of_strong_abort, of_weak_abort, of_strong_suspend, of_weak_suspend, of_scope, of_nobody, of_beside}
 use Rattle.quartz_expr.proofs.LawLemmas.{tick_fresh}
-use Rattle.statement_cells.proofs.BoolLemmas.{and_left, and_right}
+use Rattle.quartz_expr.proofs.TruthLemmas.{and_left, and_right}
 
 -- ---- what is left
 

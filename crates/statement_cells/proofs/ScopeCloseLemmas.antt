@@ -25,7 +25,6 @@ use Rattle.statement_cells.specs.Labels.{shape_in}
 use Rattle.statement_cells.specs.Builder.{Activity, Builder, absent_from, Reserved, Scoped, built_of, close_scope, closed_refs, copy_at, new_cells, reserve, reserved_cells, tree_at, writes_to_others}
 use Rattle.statement_cells.specs.Walk.{Good, InactiveAreMet, IsBuilt, Takes, Trail, acted, cell_values, cells_of, depth_takes, else_takes, entered_takes, is_active, met_by, met_if, no_takes, plus, trail, worths_of, InactiveAreAbsent, AreMetOrAbsent, CopyLies, Settled}
 use Rattle.statement_cells.proofs.GrowLemmas.{Grows, get_front}
-use Rattle.statement_cells.proofs.MarkLemmas.{or_left, or_right}
 use Rattle.statement_cells.proofs.TrailLemmas.{acted_both, met_both, raised_both, takes_none}
 use Rattle.statement_cells.proofs.ScopeGrowLemmas.{below_numbers, cells_both, cells_reserved, closed_here, is_not, reserve_grows, reserve_longer}
 use Rattle.statement_cells.proofs.ScopeCopyLemmas.{alike, none_next, others_are, suits}
@@ -34,6 +33,7 @@ use Rattle.statement_cells.proofs.ScopeEnvLemmas.{cells_read, count_values, rang
 use Rattle.statement_cells.proofs.LiesLemmas.{ActsLie, pendings_lie}
 use Rattle.quartz_expr.specs.Typed.{AllLie}
 use Rattle.quartz_expr.specs.Intervals.{range_of}
+use Rattle.quartz_expr.proofs.TruthLemmas.{or_left, or_right}
 
 -- what a scope adds, where its body added this trail: the acts on others, the body's faults before the conflicts, and the
 -- copy's meetings before the body's

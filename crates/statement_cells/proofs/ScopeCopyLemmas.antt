@@ -18,7 +18,8 @@ use Rattle.statement_cells.specs.Stands.{kept_from, some_if}
 use Rattle.statement_cells.specs.Builder.{Builder, action_if, copy_at, writes_to, writes_to_others}
 use Rattle.statement_cells.specs.Walk.{AreSoundWrites, acted}
 use Rattle.statement_cells.proofs.ScopeGrowLemmas.{below_numbers, length_numbers}
-use Rattle.statement_cells.proofs.BoolLemmas.{and_false, and_left, and_right}
+use Rattle.statement_cells.proofs.BoolLemmas.{and_false}
+use Rattle.quartz_expr.proofs.TruthLemmas.{and_left, and_right}
 
 same_is : (a b : Bool) → same_bool a b ≡ true → a ≡ b
 same_is true b h = sym h

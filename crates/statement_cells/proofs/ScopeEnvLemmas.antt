@@ -17,7 +17,7 @@ use Rattle.statement_cells.proofs.ScopeGrowLemmas.{length_numbers}
 
 -- ---- lists
 
-length_set : {A : Type 0} (xs : List A) (n : ℕ) (a : A) → length (slice_set xs n a) ≡ length xs
+pub length_set : {A : Type 0} (xs : List A) (n : ℕ) (a : A) → length (slice_set xs n a) ≡ length xs
 length_set [] n a = refl
 length_set (x ∷ xs) zero a = refl
 length_set (x ∷ xs) (suc n) a = ap suc (length_set xs n a)

@@ -13,7 +13,6 @@ use Rattle.statement_cells.specs.Builder.{Activity, Builder, Made, close_scope, 
 use Rattle.statement_cells.specs.Surface.{depth, resume, start, surface}
 use Rattle.statement_cells.specs.Stands.{AtOne, Marks, at, plain_store, some, store_in}
 use Rattle.statement_cells.specs.Walk.{Good, IsBuilt, IsCurrent, Runs, Takes, Trail, Walked, acted, met_if, no_marks, no_takes, now, plus, takes_if, trail}
-use Rattle.statement_cells.proofs.BoolLemmas.{and_left}
 use Rattle.statement_cells.proofs.TrailLemmas.{plus_assoc}
 use Rattle.statement_cells.proofs.GrowLemmas.{Grows}
 use Rattle.statement_cells.proofs.ScopeGrowLemmas.{close_grows, length_replicate, reserve_grows}
@@ -24,6 +23,7 @@ use Rattle.statement_cells.proofs.ScopeCloseLemmas.{Closing, absent_here, body_a
 use Rattle.statement_cells.proofs.ScopeRunLemmas.{Closes, length_kept, resumes_scope, starts_scope}
 use Rattle.statement_cells.proofs.ScopeEndLemmas.{defaulting, defaulting_too, scope_resumed_done, scope_resumed_grows, scope_started_done, scope_started_grows, taking, taking_too}
 use Rattle.statement_cells.proofs.LiesLemmas.{ActsLie, react_acts}
+use Rattle.quartz_expr.proofs.TruthLemmas.{and_left}
 
 -- ---- the claims on a statement
 

@@ -16,7 +16,8 @@ use Rattle.statement_cells.proofs.BoolLemmas.{and_false, and_true, or_false, or_
 use Rattle.statement_cells.proofs.MarkLemmas.{some_agree, at_agree, at_one_agree, kept_agree}
 use Rattle.statement_cells.proofs.ReactLemmas.{before_end}
 use Rattle.statement_cells.proofs.RunLemmas.{raises, faults_if, bounds, ranges, Enters, Proceeds, told}
-use Rattle.statement_cells.proofs.AbortLemmas.{and_assoc, nowhere_on}
+use Rattle.statement_cells.proofs.AbortLemmas.{nowhere_on}
+use Rattle.quartz_expr.proofs.TruthLemmas.{and_assoc}
 
 -- where a suspension's labels stay: where they did, and where control moves, it reacts and the condition holds
 abbrev pub stays_with : (stay move go cond : Bool) → Bool

@@ -18,7 +18,7 @@ use Rattle.quartz_expr.specs.Value as expr_value
 use Rattle.quartz_expr.specs.Faults.{fault_if, is_index_below, index_faults, divides, divisor_faults, faults}
 use Rattle.quartz_expr.specs.Intervals.{Interval, span, Lies, is_in, is_inside, is_sound_type, is_sound_base, is_sound_length, interval}
 use Rattle.quartz_expr.specs.Typed.{AreSound as AreSoundVars, IsTyped, have_sound_types}
-use Rattle.quartz_expr.proofs.TypingLemmas.{Typed, of_truth, of_number, of_bits, of_named, of_element, of_not, of_neg, of_logical, of_bitwise, of_equation, of_order, of_cat, of_arithmetic, of_choice, of_bit, of_slice, of_to_nat, of_to_bv, of_paren, both_true, typed_of}
+use Rattle.quartz_expr.proofs.TypingLemmas.{Typed, of_truth, of_number, of_bits, of_named, of_element, of_not, of_neg, of_logical, of_bitwise, of_equation, of_order, of_cat, of_arithmetic, of_choice, of_bit, of_slice, of_to_nat, of_to_bv, of_paren, typed_of}
 use Rattle.quartz_expr.proofs.WithinLemmas.{sound}
 use Rattle.aif_cells.specs.declared.tree.TreeOne.TheVariants as tree_one
 use Rattle.aif_cells.specs.declared.tree.TreeTwo.TheVariants as tree_two
@@ -28,6 +28,8 @@ use Rattle.aif_cells.proofs.WorthLemmas.{holds_of_bool}
 use Rattle.statement_cells.specs.Expressions.{Copies, env_of, Test, test_if, is_outside, literal, may_be_outside, index_tests, divisor_tests, tests_of, tree_of}
 use Rattle.statement_cells.specs.Walk.{IsCurrent}
 use Rattle.statement_cells.proofs.TreeValueLemmas.{tree_valued}
+use Rattle.quartz_expr.proofs.TruthLemmas.{and_parts}
+use Rattle.quartz_expr.proofs.RangeLemmas.{some_element}
 
 -- the faults of the tests that hold
 unfoldable pub raised_by : Assignment → List Test → List Fault
@@ -91,7 +93,7 @@ not_is false e = absurd (cc)
 -- what lies inside names an element
 inside_names : (i : Interval) (n : ℕ) (z : ℤ) → 1 ≤ n → is_inside i (span (pos 0) (pos (n - 1))) ≡ true → Lies i z → is_index_below n z ≡ true
 inside_names i n z h e l =
-    let f = both_true (int_le (pos 0) i.low) (int_le i.high (pos (n - 1))) e in
+    let f = and_parts (int_le (pos 0) i.low) (int_le i.high (pos (n - 1))) e in
     let low : pos 0 ≤ℤ i.low = grind (arith, ints, f.0) in
     let high : i.high ≤ℤ pos (n - 1) = grind (arith, ints, f.1) in
     at z (omega (arith, ints, l.above)) (omega (arith, ints, l.below))
@@ -103,22 +105,12 @@ inside_names i n z h e l =
 -- what lies inside an interval lies in the one around it
 pub inside_is_in : (i j : Interval) (z : ℤ) → not (is_inside i j) ≡ false → Lies i z → is_in j z ≡ true
 inside_is_in i j z e l =
-    let f = both_true (int_le j.low i.low) (int_le i.high j.high) (not_is _ e) in
+    let f = and_parts (int_le j.low i.low) (int_le i.high j.high) (not_is _ e) in
     let low : j.low ≤ℤ i.low = grind (arith, ints, f.0) in
     let high : i.high ≤ℤ j.high = grind (arith, ints, f.1) in
     let above : j.low ≤ℤ z = omega (arith, ints, l.above) in
     let below : z ≤ℤ j.high = omega (arith, ints, l.below) in
     grind (arith, ints, above, below)
-
--- each variable has an element
-pub some_element : (vs : Vars) (x : ℕ) → have_sound_types vs ≡ true → 1 ≤ count_of vs x
-some_element [] x e = omega arith
-some_element (v ∷ vs) (suc x) e = some_element vs x (both_true (is_sound_type v.decl.ty) (have_sound_types vs) e).1
-some_element (v ∷ vs) zero e = at v.decl.ty.len (both_true (is_sound_base v.decl.ty.base) (is_sound_length v.decl.ty.len) (both_true (is_sound_type v.decl.ty) (have_sound_types vs) e).0).1
-  where
-    at : (o : Option ℕ) → is_sound_length o ≡ true → 1 ≤ unwrap_or o 1
-    at None e = omega arith
-    at (Some n) e = grind (arith, nat_tests, e)
 
 zero_is : (z : ℤ) → same_value z (pos 0) ≡ is_zero z
 zero_is (pos zero) = refl
@@ -150,7 +142,7 @@ module _ (vs : Vars) (σ : Assignment) (κ : Copies) (s : AreSoundVars vs) (c : 
   divisor_raises op b k p g d =
       guarded_test σ (divides op && is_in (interval vs b) (pos 0)) g (two tree_two.Eq (tree_of vs κ b) (literal (pos 0))) (divides op && is_zero (val b)) Divisor p
       (λ e. holds_of_bool (same_value (worth σ (tree_of vs κ b)) (pos 0)) ∙ ap (λ z. same_value z (pos 0)) (tree_valued vs σ κ s c b k d) ∙ zero_is (val b)
-      ∙ sym (ap (λ a. a && is_zero (val b)) (both_true (divides op) (is_in (interval vs b) (pos 0)) e).0))
+      ∙ sym (ap (λ a. a && is_zero (val b)) (and_parts (divides op) (is_in (interval vs b) (pos 0)) e).0))
       (λ e. spared (divides op) (is_in (interval vs b) (pos 0)) (is_zero (val b)) e (no_zero (interval vs b) (val b) (inside b k d)))
     where
       spared : (a b z : Bool) → (a && b) ≡ false → (b ≡ false → z ≡ false) → (a && z) ≡ false

@@ -14,6 +14,7 @@ use Rattle.statement_cells.specs.Builder.{Builder, Entry, Scoped, EnteredCopy, D
 use Rattle.statement_cells.specs.Stands.{Marks, some}
 use Rattle.statement_cells.specs.Walk.{acted, marked, met_by, met_if, is_active, cell_values, worths_of, takes_copy, Takes, no_takes, or_else, else_takes, takes_if, entered_takes, depth_takes, Trail, trail, now, next_marks, plus, no_trail, no_marks, union, Settles}
 use Rattle.statement_cells.proofs.BoolLemmas.{or_false, or_assoc}
+use Rattle.statement_cells.proofs.MarkLemmas.{or_else_assoc}
 
 -- ---- trails one behind the other
 
@@ -21,15 +22,11 @@ pub else_none : (a : Option ℤ) → or_else a None ≡ a
 else_none (Some z) = refl
 else_none None = refl
 
-pub else_assoc : (a b c : Option ℤ) → or_else (or_else a b) c ≡ or_else a (or_else b c)
-else_assoc (Some z) b c = refl
-else_assoc None b c = refl
-
 pub takes_none : (f : Takes) → else_takes f no_takes ≡ f
 takes_none f = λ i r. else_none (f r) i
 
 pub takes_assoc : (f g h : Takes) → else_takes (else_takes f g) h ≡ else_takes f (else_takes g h)
-takes_assoc f g h = λ i r. else_assoc (f r) (g r) (h r) i
+takes_assoc f g h = λ i r. or_else_assoc (f r) (g r) (h r) i
 
 pub union_none : (m : Marks) → union m no_marks ≡ m
 union_none m = λ i l. or_false (m l) i

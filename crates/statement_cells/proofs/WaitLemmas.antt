@@ -14,11 +14,12 @@ use Rattle.statement_cells.specs.Labels.{labels, registers}
 use Rattle.statement_cells.specs.Stands.{Marks, Registers, some, at, plain, AtOne}
 use Rattle.statement_cells.specs.Walk.{else_takes, Trail, no_marks, union, plus, no_trail, kept_marks, MarksIn, Holds, Live, Idle}
 use Rattle.statement_cells.proofs.BoolLemmas.{and_false}
-use Rattle.statement_cells.proofs.MarkLemmas.{some_free, or_right, marks_both, kept_split}
+use Rattle.statement_cells.proofs.MarkLemmas.{some_free, marks_both, kept_split}
 use Rattle.statement_cells.proofs.TrailLemmas.{mark}
 use Rattle.statement_cells.proofs.ReactLemmas.{before_end, held_fresh}
 use Rattle.statement_cells.proofs.PlainLemmas.{plain_fresh, plain_tick_fresh}
 use Rattle.statement_cells.proofs.RunLemmas.{raises, InRange, bounds, ranges, second_true}
+use Rattle.quartz_expr.proofs.TruthLemmas.{or_right}
 
 -- the wait label alone
 abbrev pub waits : (label : ℕ) → Bool → Trail

@@ -14,8 +14,8 @@ use Rattle.reincarnation.specs.declared.copy.Entered.{Entered}
 use Rattle.reincarnation.specs.Carrying.{Stores, carried, delayed_parts, parts_of, value_part}
 use Rattle.statement_cells.specs.Whole.{carried_in, variable_registers}
 use Rattle.statement_cells.proofs.CarryLemmas.{length_carried}
-use Rattle.expression_cells.proofs.LiteralLemmas.{count_small}
 use Rattle.surface_depth.specs.Lists.{list_at}
+use Rattle.quartz_expr.proofs.RangeLemmas.{count_small}
 
 count_parts : (st : Storage) (d : Bool) → one_if (is_memorized st) + (one_if d + one_if d) ≡ length (value_part st ++ delayed_parts d)
 count_parts Mem true = refl

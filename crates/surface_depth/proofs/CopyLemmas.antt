@@ -10,9 +10,7 @@ use Rattle.statement_builder.specs.declared.builder.DepthCopy.{DepthCopy as Code
 use Rattle.statement_builder.specs.declared.builder.EnteredCopy.{EnteredCopy as CodeEntered}
 use Rattle.statement_builder.specs.Built.{depth_copy, entered_copy}
 use Rattle.surface_depth.specs.Lists.{depths_by, entered_by, pushed}
-
-other : (l m : ℕ) → (l ≡ m → ⊥) → (m == l) ≡ false
-other l m h = grind (arith, nat_tests, h)
+use Rattle.surface_depth.proofs.LabelLemmas.{other}
 
 same : (l m : ℕ) → l ≡ m → (m == l) ≡ true
 same l m h = grind (arith, nat_tests, h)

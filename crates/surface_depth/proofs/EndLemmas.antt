@@ -5,7 +5,6 @@ use Rattle.std.proofs.lemmas.Bool.Decides.{nat_tests}
 use Rattle.std.proofs.lemmas.List.{take_more}
 use Rattle.quartz_tree.specs.declared.declare.Var.{Var}
 use Rattle.quartz_expr.specs.Vars.{Vars}
-use Rattle.quartz_expr.proofs.TypingLemmas.{both_true}
 use Rattle.aif_cells.specs.declared.aif.Aif.{Aif}
 use Rattle.aif_cells.specs.declared.cells.Action.{Action}
 use Rattle.aif_cells.specs.declared.cells.Monitor.{Monitor}
@@ -26,11 +25,12 @@ use Rattle.surface_depth.specs.Begins.{output_copy}
 use Rattle.surface_depth.specs.Carrying.{closed_output}
 use Rattle.surface_depth.specs.Ends.{Ends, EndsAll, are_below, count_of_outputs, open_copy}
 use Rattle.surface_depth.proofs.CarryLemmas.{there}
+use Rattle.quartz_expr.proofs.TruthLemmas.{and_parts}
 
 pub all_below : (n : ℕ) (ks : List ℕ) → are_below n ks ≡ true → AreBelow n ks
 all_below n [] h = tt
 all_below n (k ∷ ks) h =
-    let b = both_true (nat_lt k n) (are_below n ks) h in
+    let b = and_parts (nat_lt k n) (are_below n ks) h in
     let l : k < n = grind (arith, nat_tests, b.0) in
     (l, all_below n ks b.1)
 

@@ -19,7 +19,7 @@ use Rattle.surface_depth.specs.Lists.{pushed}
 
 -- ---- lists by label
 
-other : (l m : ℕ) → (l ≡ m → ⊥) → (m == l) ≡ false
+pub other : (l m : ℕ) → (l ≡ m → ⊥) → (m == l) ≡ false
 other l m h = grind (arith, nat_tests, h)
 
 same : (l m : ℕ) → l ≡ m → (m == l) ≡ true

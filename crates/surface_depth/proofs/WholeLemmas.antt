@@ -32,6 +32,7 @@ use Rattle.surface_depth.specs.Labels.{TakesLabels}
 use Rattle.surface_depth.specs.Lists.{depths_by, entered_by}
 use Rattle.surface_depth.specs.Ways.{steps_of}
 use Rattle.surface_depth.proofs.ScopeLemmas.{scopes_are}
+use Rattle.statement_cells.proofs.NextLemmas.{length_outputs}
 
 -- what the registers take at the end
 stores_of : Vars → Term → Stores
@@ -92,18 +93,12 @@ module_compiled vs t b os cs rs a m z k n v outs h s es ds same room taken rest 
 
 -- ---- the registers' count
 
-length_of_outputs : (vs : Vars) (xs : List ℕ) → length (outputs_registers vs xs) ≡ output_registers vs xs
-length_of_outputs vs [] = refl
-length_of_outputs vs (x ∷ xs) =
-    length-append (repeated (count_of vs x) (element_registers (shape_in vs x))) (outputs_registers vs xs)
-    ∙ ap₂ (λ a b. a + b) (length_repeated (λ r. pos 0) (shape_in vs x) (count_of vs x)) (length_of_outputs vs xs)
-
 pub count_first : (vs : Vars) (xs : List ℕ) (n m : ℕ) (rs : List Register) → rs ≡ register_of (pos 1) ∷ (replicate n (register_of (pos 0)) ++ (outputs_registers vs xs ++ replicate m (register_of (pos 0))))
     → length rs ≡ 1 + (n + (output_registers vs xs + m))
 count_first vs xs n m rs e =
     let a : length (replicate n (register_of (pos 0)) ++ (outputs_registers vs xs ++ replicate m (register_of (pos 0)))) ≡ n + (output_registers vs xs + m) =
     length-append (replicate n (register_of (pos 0))) (outputs_registers vs xs ++ replicate m (register_of (pos 0)))
-    ∙ ap₂ (λ a b. a + b) (length-replicate n (register_of (pos 0))) (length-append (outputs_registers vs xs) (replicate m (register_of (pos 0))) ∙ ap₂ (λ a b. a + b) (length_of_outputs vs xs) (length-replicate m (register_of (pos 0)))) in
+    ∙ ap₂ (λ a b. a + b) (length-replicate n (register_of (pos 0))) (length-append (outputs_registers vs xs) (replicate m (register_of (pos 0))) ∙ ap₂ (λ a b. a + b) (length_outputs vs xs) (length-replicate m (register_of (pos 0)))) in
     omega (arith, ap length e, a)
 
 -- ---- outputs are closed, and labels' registers are told what they take

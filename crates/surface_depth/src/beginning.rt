@@ -1,7 +1,6 @@
-ghost use Rattle.std.specs.Prelude.{◌≡◌, ◌+◌, ◌-◌, ◌<◌, ◌^◌, ◌++◌, [], ◌∷◌, length, map, option_map, replicate, slice_get, slice_set, true, IfOk, OnOk, Some};
+ghost use Rattle.std.specs.Prelude.{◌≡◌, ◌-◌, ◌<◌, ◌^◌, [], length, map, option_map, replicate, slice_get, slice_set, true, IfOk, OnOk, Some};
 ghost use Rattle.quartz_expr.specs.Typed.{have_sound_types};
-ghost use Rattle.aif_cells.specs.Built.{all_defined};
-ghost use Rattle.reincarnation.specs.Entering.{numbers_from, reserved};
+ghost use Rattle.reincarnation.specs.Entering.{numbers_from};
 ghost use Rattle.statement_builder.specs.Built.{IsBuilt, IsOver};
 ghost use Rattle.surface_depth.specs.Begins.{Begins, BeginsAll, unknown, with_copy};
 ghost use Rattle.aif_cells.specs.Aif.{elements_of, input_count};
@@ -10,8 +9,9 @@ ghost use Rattle.statement_cells.specs.Whole.{after_flow as plain_after_flow, fi
 
 use crate::counting::{count_elements, plus};
 use crate::registers::shape_in;
-use aif_cells::{Aif, Cell, Made, Ref, Tree, add_cell};
-use quartz_tree::{Flow, Name, NoMemory, Place, Var};
+use aif_cells::{Aif, Made, Ref};
+use quartz_tree::{Flow, Name, NoMemory, Var};
+use reincarnation::{cell_refs, reserve};
 use sqlite_items::Items;
 use statement_builder::{Builder, OpenVar};
 use statement_cells::Current;
@@ -94,45 +94,6 @@ pub(crate) struct OutputCopy {
     pub cells: Items<u32>,
 }
 
-// A reserved cell behind all others, by its number.
-fn reserve_one(cells: &mut Items<Cell>, place: Place) -> Result<u32, NoMemory>
-    ensures number { IfOk result (λ n. n ≡ length cells.old) }
-    ensures cells { OnOk result (all_defined cells.new ≡ all_defined cells.old ++ reserved place ∷ []) }
-{
-    let Ref::Cell(cell) = add_cell(cells, Tree::Value(Ref::Lit(0)), place)? else {
-        return Err(NoMemory);
-    };
-    Ok(cell)
-}
-
-// So many reserved cells behind all others, by their numbers.
-fn reserve(
-    alloc: Global,
-    cells: &mut Items<Cell>,
-    place: Place,
-    count: u32,
-) -> Result<Items<u32>, NoMemory>
-    ensures numbers { IfOk result (λ ns. ns ≡ numbers_from (length cells.old) count) }
-    ensures cells { OnOk result (all_defined cells.new ≡ all_defined cells.old ++ replicate count (reserved place)) }
-{
-    let mut numbers = Items::new(alloc);
-    for _element in 0..count {
-        numbers.push(reserve_one(cells, place)?)?;
-    }
-    Ok(numbers)
-}
-
-// The references of cells.
-fn cell_refs(alloc: Global, cells: &[u32]) -> Result<Items<Ref>, NoMemory>
-    ensures { IfOk result (λ rs. rs ≡ map Ref.Cell cells.now) }
-{
-    let mut references = Items::new(alloc);
-    for cell in cells {
-        references.push(Ref::Cell(*cell))?;
-    }
-    Ok(references)
-}
-
 // Another current copy of a variable takes the place of the one before.
 fn set_current(copies: &mut Vec<Current>, var: u32, current: Current)
     requires { var < length copies.old.items }
@@ -174,7 +135,7 @@ fn begin_output(
 {
     let place = shape_in(vars, var).place;
     let count = count_elements(vars, var);
-    let cells = reserve(alloc, &mut builder.aif.cells, place, count)?;
+    let cells = reserve(alloc, &mut builder.aif.cells, place, count as u128)?;
     builder.aif.made.push(Made { var, stored: true })?;
     let values = cell_refs(alloc, cells.as_slice())?;
     set_current(&mut builder.copies, var, Current { copy: 0, values });

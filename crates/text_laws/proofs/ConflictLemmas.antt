@@ -33,15 +33,9 @@ use Rattle.quartz_build.specs.Parts.{IsAifOf}
 use Rattle.text_laws.specs.Conflicts.{StoriesEndFlagged, StrictStepsHaveNoConflict, StrictStoriesHaveNoConflict, UntoldHasNoConflict}
 use Rattle.text_laws.proofs.PlaceLemmas.{declared_apart}
 use Rattle.text_laws.proofs.VerdictLemmas.{well_typed_is_sound}
+use Rattle.quartz_build.proofs.BuildLemmas.{same_scene, same_actions}
 
 -- ---- the cells of a module
-
--- its scene and its actions, in any cells
-pub same_scene : (m : ModuleTree) (a : Aif) → IsAifOf m a → scene a ≡ scene_in m
-same_scene m a i = ap (λ (c : Compiled). let s : Scene = record { cells = c.cells; ways = c.paths; made = c.made } in s) i.compiled_to
-
-pub same_actions : (m : ModuleTree) (a : Aif) → IsAifOf m a → a.actions ≡ (compiled_of m).actions
-same_actions m a i = ap (λ (c : Compiled). c.actions) i.compiled_to
 
 -- ---- variables that aren't told to be loose
 

@@ -34,9 +34,9 @@ use Rattle.trace_io.specs.Story.{End, done, bad, limit, fault, StoryFrom, by_inp
 use Rattle.trace_io.specs.Writing.{line_of}
 use Rattle.cell_run.proofs.InputLemmas.{AreStepsOf, have_zero, steps_are}
 use Rattle.cell_run.proofs.TypedLemmas.{inputs_are}
-use Rattle.loose_runs.proofs.RunLooseLemmas.{initial_listed, next_listed}
 use Rattle.text_laws.specs.Stories.{StoriesAreOne}
 use Rattle.text_laws.proofs.VerdictLemmas.{well_typed_is_sound}
+use Rattle.macro_steps.proofs.RunLemmas.{next_listed, initial_listed}
 
 -- lines, and an end
 record Telling : Type 0 where

@@ -11,6 +11,7 @@ use Rattle.quartz_expr.specs.Intervals.{Interval, base_interval, is_in, is_sound
 use Rattle.trace_io.specs.Values.{in_range, value_text}
 use Rattle.trace_io.specs.Writing.{next_number, size_of, drawn, drawn_values, number_behind, all_in_range, line_of_types, rest_of_line, generated_of}
 use Rattle.trace_io.specs.Generator.{Generator, bytes_left}
+use Rattle.quartz_expr.proofs.RangeLemmas.{base_ordered}
 
 -- one value more
 pub drawn_more : (types : List Base) (i s t : ℕ) (d : Base) (z : ℤ) (zs new all : List ℤ) → i < length types → zs ++ drawn_values (drop i types) s ≡ all
@@ -23,13 +24,6 @@ drawn_more types i s t d z zs new all h e n v f =
 
 pub number_more : (types : List Base) (i s t : ℕ) (d : Base) (n : ℕ) → i < length types → number_behind (drop i types) s ≡ n → t ≡ next_number s → number_behind (drop (i + 1) types) t ≡ n
 number_more types i s t d n h e f = ap (number_behind (drop (i + 1) types)) f ∙ (ap (λ (bs : List Base). number_behind bs s) (sym (drop_more types i d h)) ∙ e)
-
--- no range is empty
-ordered : (b : Base) → is_sound_base b ≡ true → (base_interval b).low ≤ℤ (base_interval b).high
-ordered base.Bool h = grind (arith, ints)
-ordered (base.Nat n) h = grind (arith, ints, nat_tests)
-ordered (base.Int n) h = grind (arith, ints, nat_tests)
-ordered (base.Bv n) h = let k : 1 ≤ 2 ^ n = one-le-pow n 2 (omega arith) in grind (arith, ints)
 
 -- a value that is drawn lies in the interval
 drawn_lies : (i : Interval) (s : ℕ) → i.low ≤ℤ i.high → is_in i (drawn i s) ≡ true
@@ -49,7 +43,7 @@ drawn_lies i s h = lies (s / 2 ^ 33) (size_of i) (sized ((i.high -ℤ i.low) +�
         within r p = grind (arith, ints, nat_tests)
 
 drawn_stays : (b : Base) (s : ℕ) → is_sound_base b ≡ true → in_range b (drawn (base_interval b) s) ≡ drawn (base_interval b) s
-drawn_stays b s h = ap (λ (t : Bool). if t then drawn (base_interval b) s else pos 0) (drawn_lies (base_interval b) s (ordered b h))
+drawn_stays b s h = ap (λ (t : Bool). if t then drawn (base_interval b) s else pos 0) (drawn_lies (base_interval b) s (base_ordered b h))
 
 pub drawn_in_range : (types : List Base) (s : ℕ) → All (λ b. is_sound_base b ≡ true) types → all_in_range types (drawn_values types s) ≡ drawn_values types s
 drawn_in_range [] s h = refl

@@ -22,8 +22,9 @@ use Rattle.trace_io.specs.Reading.{is_header, behind_first, named_by, head}
 use Rattle.trace_io.specs.Scan.{AreFields, unblanked, front_word, behind_word}
 use Rattle.trace_io.proofs.LineLemmas.{words_unblanked, first_word, no_word, some_words}
 use Rattle.trace_io.proofs.FieldLemmas.{fields_sound}
-use Rattle.trace_io.proofs.TypeLemmas.{both, base_sound}
+use Rattle.trace_io.proofs.TypeLemmas.{base_sound}
 use Rattle.trace_io.specs.Header.{Named, inputs_from, number_named, fields_at, is_marked, names_by, no_marks, header_by, unmarked_count, Listed, Adds}
+use Rattle.quartz_expr.proofs.TruthLemmas.{and_parts}
 
 -- one element more
 pub field_pushed : (b : Base) (at behind : ℕ) (fs new all : List Field) → at < behind → fs ++ fields_from at (replicate (behind - at) b) ≡ all → new ≡ fs ++ ((record { place = at; base = b }) ∷ [])
@@ -258,7 +259,7 @@ all_listed x is ms fs rest e h = subst (λ (y : Option (List Field)). Listed y t
 -- each of the elements of the inputs has a place among all, and a sound type
 pub inputs_sound : (count n : ℕ) (vs : Vars) → n + length (types_with Input vs) ≤ count → have_sound_types vs ≡ true → All (λ i. AreFields count i.fields) (inputs_from n vs)
 inputs_sound count n [] h s = λ k d l. absurd (omega (arith, l))
-inputs_sound count n (v ∷ vs) h s = flow (same_flow Input v.decl.flow) (both (is_sound_type v.decl.ty) (have_sound_types vs) s) h (inputs_sound count (n + count_in v) vs) (inputs_sound count n vs)
+inputs_sound count n (v ∷ vs) h s = flow (same_flow Input v.decl.flow) (and_parts (is_sound_type v.decl.ty) (have_sound_types vs) s) h (inputs_sound count (n + count_in v) vs) (inputs_sound count n vs)
   where
     long : length (scalars v ++ types_with Input vs) ≡ count_in v + length (types_with Input vs)
     long = length-append (scalars v) (types_with Input vs) ∙ ap (λ (m : ℕ). m + length (types_with Input vs)) (length-replicate (count_in v) v.decl.ty.base)

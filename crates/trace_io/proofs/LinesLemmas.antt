@@ -5,10 +5,7 @@ use Rattle.std.proofs.Math.Seq.{take-nil}
 use Rattle.std.proofs.lemmas.List.{take-append-drop, take_more, drop-drop}
 use Rattle.trace_io.specs.Lines.{lines, before_first, without_last, is_short, is_ended}
 use Rattle.trace_io.specs.Held.{has_line_end, IsClosed, Came, StartsLong}
-
-either : (a b : Bool) → (a || b) ≡ false → (a ≡ false) × (b ≡ false)
-either false b e = (refl, e)
-either true b e = absurd (cc e)
+use Rattle.quartz_expr.proofs.TruthLemmas.{or_parts}
 
 -- a byte that is no LF before some text
 other_byte : (c : ℕ) (text : List ℕ) → (c == 10) ≡ false → lines (c ∷ text) ≡ before_first c (lines text)
@@ -17,7 +14,7 @@ other_byte c text e = ap (λ (b : Bool). if b then (c ∷ []) ∷ lines text els
 -- bytes up to an LF are the first line
 closed_at : (front rest : List ℕ) → has_line_end front ≡ false → lines (front ++ (10 ∷ rest)) ≡ (front ++ (10 ∷ [])) ∷ lines rest
 closed_at [] rest e = refl
-closed_at (c ∷ cs) rest e = other_byte c (cs ++ (10 ∷ rest)) (either (c == 10) (has_line_end cs) e).0 ∙ ap (before_first c) (closed_at cs rest (either (c == 10) (has_line_end cs) e).1)
+closed_at (c ∷ cs) rest e = other_byte c (cs ++ (10 ∷ rest)) (or_parts (c == 10) (has_line_end cs) e).0 ∙ ap (before_first c) (closed_at cs rest (or_parts (c == 10) (has_line_end cs) e).1)
 
 pub closed_front : (line rest : List ℕ) → IsClosed line → lines (line ++ rest) ≡ line ∷ lines rest
 closed_front line rest k =
@@ -26,8 +23,8 @@ closed_front line rest k =
 
 -- bytes without an LF are the only line, or the front of the first one
 pub open_alone : (c : ℕ) (cs : List ℕ) → has_line_end (c ∷ cs) ≡ false → lines (c ∷ cs) ≡ (c ∷ cs) ∷ []
-open_alone c [] e = other_byte c [] (either (c == 10) false e).0
-open_alone c (d ∷ ds) e = other_byte c (d ∷ ds) (either (c == 10) (has_line_end (d ∷ ds)) e).0 ∙ ap (before_first c) (open_alone d ds (either (c == 10) (has_line_end (d ∷ ds)) e).1)
+open_alone c [] e = other_byte c [] (or_parts (c == 10) false e).0
+open_alone c (d ∷ ds) e = other_byte c (d ∷ ds) (or_parts (c == 10) (has_line_end (d ∷ ds)) e).0 ∙ ap (before_first c) (open_alone d ds (or_parts (c == 10) (has_line_end (d ∷ ds)) e).1)
 
 pub record FirstLine (front bytes : List ℕ) : Type 0 where
   pub more : List ℕ
@@ -41,17 +38,17 @@ before_some c (l ∷ ls) = (l, ls, refl)
 open_front : (c : ℕ) (cs rest : List ℕ) → has_line_end (c ∷ cs) ≡ false → FirstLine (c ∷ cs) ((c ∷ cs) ++ rest)
 open_front c [] rest e =
     let (m, o, k) = before_some c (lines rest) in
-    record { more = m; others = o; is = other_byte c rest (either (c == 10) false e).0 ∙ k }
+    record { more = m; others = o; is = other_byte c rest (or_parts (c == 10) false e).0 ∙ k }
 open_front c (d ∷ ds) rest e =
-    let f = open_front d ds rest (either (c == 10) (has_line_end (d ∷ ds)) e).1 in
-    record { more = f.more; others = f.others; is = other_byte c ((d ∷ ds) ++ rest) (either (c == 10) (has_line_end (d ∷ ds)) e).0 ∙ ap (before_first c) f.is }
+    let f = open_front d ds rest (or_parts (c == 10) (has_line_end (d ∷ ds)) e).1 in
+    record { more = f.more; others = f.others; is = other_byte c ((d ∷ ds) ++ rest) (or_parts (c == 10) (has_line_end (d ∷ ds)) e).0 ∙ ap (before_first c) f.is }
 
 -- without its LF a line is no shorter than a front without one
 long_still : (xs ys : List ℕ) → has_line_end xs ≡ false → length xs ≤ length (without_last 10 (xs ++ ys))
 long_still [] ys e = omega arith
-long_still (c ∷ []) [] e = subst (λ (b : Bool). 1 ≤ length (if b then [] else c ∷ [])) (sym (either (c == 10) false e).0) (omega arith)
+long_still (c ∷ []) [] e = subst (λ (b : Bool). 1 ≤ length (if b then [] else c ∷ [])) (sym (or_parts (c == 10) false e).0) (omega arith)
 long_still (c ∷ []) (y ∷ ys) e = omega arith
-long_still (c ∷ d ∷ xs) ys e = let k : length (d ∷ xs) ≤ length (without_last 10 ((d ∷ xs) ++ ys)) = long_still (d ∷ xs) ys (either (c == 10) (has_line_end (d ∷ xs)) e).1 in omega (arith, k)
+long_still (c ∷ d ∷ xs) ys e = let k : length (d ∷ xs) ≤ length (without_last 10 ((d ∷ xs) ++ ys)) = long_still (d ∷ xs) ys (or_parts (c == 10) (has_line_end (d ∷ xs)) e).1 in omega (arith, k)
 
 pub starts_long : (xs rest bytes : List ℕ) → has_line_end xs ≡ false → 65536 < length xs → xs ++ rest ≡ bytes → StartsLong bytes
 starts_long [] rest bytes e h k = absurd (omega (arith, h))
@@ -90,7 +87,7 @@ short_closed line k h =
     ap is_short k.is ∙ (ap (λ (l : List ℕ). nat_le (length l) 65536) (unended_front k.front) ∙ at_most (length k.front) (omega (arith, e, h)))
 
 -- a line with its LF at the end is ended
-ended_at : (front : List ℕ) → is_ended (front ++ (10 ∷ [])) ≡ true
+pub ended_at : (front : List ℕ) → is_ended (front ++ (10 ∷ [])) ≡ true
 ended_at [] = refl
 ended_at (c ∷ []) = refl
 ended_at (c ∷ d ∷ cs) = ended_at (d ∷ cs)

@@ -12,7 +12,7 @@ use Rattle.trace_io.specs.Held.{Held, has_line_end, Came, Finds, CalledAtMost, R
 use Rattle.trace_io.proofs.LinesLemmas.{closed_front, closed_ended, open_alone, starts_long, short_closed, short_open}
 
 -- a greater bound on calls
-more_calls : (m n : ℕ) (a b : Option ℕ) → m ≤ n → CalledAtMost m a b → CalledAtMost n a b
+pub more_calls : (m n : ℕ) (a b : Option ℕ) → m ≤ n → CalledAtMost m a b → CalledAtMost n a b
 more_calls m n None b h k = k
 more_calls m n (Some x) b h k = (k.0, k.1, omega (arith, h, k.2))
 

@@ -43,7 +43,7 @@ is_at_front vs trace t means held = record {
     ends : t.course.held.ended ≡ false
     ends = ap (λ h. h.ended) held
 
-joined_both : (ls ms : List (List ℕ)) → joined_lines (ls ++ ms) ≡ joined_lines ls ++ joined_lines ms
+pub joined_both : (ls ms : List (List ℕ)) → joined_lines (ls ++ ms) ≡ joined_lines ls ++ joined_lines ms
 joined_both [] ms = refl
 joined_both (l ∷ ls) ms = ap (λ (x : List ℕ). l ++ x) (joined_both ls ms) ∙ sym (append_assoc l (joined_lines ls) (joined_lines ms))
 

@@ -5,6 +5,8 @@ use Rattle.std.proofs.lemmas.Bool.Decides.{nat_tests}
 use Rattle.trace_io.specs.Lines.{joined_lines, is_ended}
 use Rattle.trace_io.specs.Held.{has_line_end, IsClosed}
 use Rattle.trace_io.specs.Counting.{Tally, longest_line, line_with, last_line, grows_long, StandsFor}
+use Rattle.quartz_expr.proofs.TruthLemmas.{or_parts}
+use Rattle.trace_io.proofs.LinesLemmas.{ended_at}
 
 -- the last of some lines
 abbrev pub last_of : List (List ℕ) → List ℕ
@@ -21,22 +23,18 @@ AreLines (l ∷ ls) = IsClosed l × (length l ≤ longest_line) × AreLines ls
 abbrev IsBehind : List ℕ → Type 0
 IsBehind line = (line ≡ []) ⊎ (is_ended line ≡ true)
 
-either : (a b : Bool) → (a || b) ≡ false → (a ≡ false) × (b ≡ false)
-either false b e = (refl, e)
-either true b e = absurd (cc e)
-
 begins : (line : List ℕ) (c : ℕ) → IsBehind line → line_with line c ≡ c ∷ []
 begins line c (inl e) = ap (λ (l : List ℕ). line_with l c) e
 begins line c (inr e) = ap (λ (b : Bool). if b then c ∷ [] else line ++ (c ∷ [])) e
 
 not_ended : (l : List ℕ) → has_line_end l ≡ false → is_ended l ≡ false
 not_ended [] e = refl
-not_ended (c ∷ []) e = (either (c == 10) false e).0
-not_ended (c ∷ d ∷ cs) e = not_ended (d ∷ cs) (either (c == 10) (has_line_end (d ∷ cs)) e).1
+not_ended (c ∷ []) e = (or_parts (c == 10) false e).0
+not_ended (c ∷ d ∷ cs) e = not_ended (d ∷ cs) (or_parts (c == 10) (has_line_end (d ∷ cs)) e).1
 
 open_both : (xs ys : List ℕ) → has_line_end (xs ++ ys) ≡ false → has_line_end xs ≡ false
 open_both [] ys e = refl
-open_both (c ∷ cs) ys e = let (a, b) = either (c == 10) (has_line_end (cs ++ ys)) e in ap₂ (λ (x y : Bool). x || y) a (open_both cs ys b)
+open_both (c ∷ cs) ys e = let (a, b) = or_parts (c == 10) (has_line_end (cs ++ ys)) e in ap₂ (λ (x y : Bool). x || y) a (open_both cs ys b)
 
 goes_on : (line : List ℕ) (c : ℕ) → has_line_end line ≡ false → line_with line c ≡ line ++ (c ∷ [])
 goes_on line c e = ap (λ (b : Bool). if b then c ∷ [] else line ++ (c ∷ [])) (not_ended line e)
@@ -72,11 +70,6 @@ next_last line (c ∷ cs) rest b e = ap (λ (l : List ℕ). last_line l (cs ++ (
 next_grows : (line front rest : List ℕ) → IsBehind line → has_line_end front ≡ false → length line ≤ longest_line → length (front ++ (10 ∷ [])) ≤ longest_line → grows_long line (front ++ (10 ∷ rest)) ≡ grows_long (front ++ (10 ∷ [])) rest
 next_grows line [] rest b e h k = ap (λ (t : Bool). t || grows_long (line_with line 10) rest) (not_over (length line) h) ∙ ap (λ (l : List ℕ). grows_long l rest) (begins line 10 b)
 next_grows line (c ∷ cs) rest b e h k = ap (λ (t : Bool). t || grows_long (line_with line c) (cs ++ (10 ∷ rest))) (not_over (length line) h) ∙ (ap (λ (l : List ℕ). grows_long l (cs ++ (10 ∷ rest))) (begins line c b) ∙ grows_further rest (c ∷ []) cs e k)
-
-ended_at : (front : List ℕ) → is_ended (front ++ (10 ∷ [])) ≡ true
-ended_at [] = refl
-ended_at (c ∷ []) = refl
-ended_at (c ∷ d ∷ cs) = ended_at (d ∷ cs)
 
 -- the line behind these, where there is one
 abbrev last_with : List ℕ → List (List ℕ) → List ℕ

@@ -187,7 +187,7 @@ module _ (start now : Trail) (left0 : Option (List ℕ)) (f0 : ℕ) (c0 : Option
 
 -- a step behind a line that gives none
 
-calls_together : (m n : ℕ) (a b d : Option ℕ) → CalledAtMost m a b → CalledAtMost n b d → CalledAtMost (m + n) a d
+pub calls_together : (m n : ℕ) (a b d : Option ℕ) → CalledAtMost m a b → CalledAtMost n b d → CalledAtMost (m + n) a d
 calls_together m n None b d h k = none b d h k
   where
     none : (b d : Option ℕ) → b ≡ None → CalledAtMost n b d → d ≡ None

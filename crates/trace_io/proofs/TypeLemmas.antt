@@ -9,20 +9,17 @@ use Rattle.quartz_expr.specs.Typed.{have_sound_types}
 use Rattle.outside.specs.Bytes.{GainsBegun}
 use Rattle.outside.specs.declared.source.Failed.{Failed}
 use Rattle.trace_io.specs.Inputs.{same_flow, scalars, count_in, types_with}
-
-pub both : (a b : Bool) → (a && b) ≡ true → (a ≡ true) × (b ≡ true)
-both true b e = (refl, e)
-both false b e = absurd (cc e)
+use Rattle.quartz_expr.proofs.TruthLemmas.{and_parts}
 
 -- each variable of sound types has one
 pub sound_at : (vs : Vars) (i : ℕ) (d : Var) → have_sound_types vs ≡ true → i < length vs → is_sound_type (get_or vs i d).decl.ty ≡ true
 sound_at [] i d e h = absurd (omega (arith, h))
-sound_at (v ∷ vs) zero d e h = (both (is_sound_type v.decl.ty) (have_sound_types vs) e).0
-sound_at (v ∷ vs) (suc i) d e h = sound_at vs i d (both (is_sound_type v.decl.ty) (have_sound_types vs) e).1 (omega (arith, h))
+sound_at (v ∷ vs) zero d e h = (and_parts (is_sound_type v.decl.ty) (have_sound_types vs) e).0
+sound_at (v ∷ vs) (suc i) d e h = sound_at vs i d (and_parts (is_sound_type v.decl.ty) (have_sound_types vs) e).1 (omega (arith, h))
 
 -- a sound type has a sound base
 pub base_sound : (v : Var) → is_sound_type v.decl.ty ≡ true → is_sound_base v.decl.ty.base ≡ true
-base_sound v e = (both (is_sound_base v.decl.ty.base) (is_sound_length v.decl.ty.len) e).0
+base_sound v e = (and_parts (is_sound_base v.decl.ty.base) (is_sound_length v.decl.ty.len) e).0
 
 -- one variable more
 pub sound_pushed : (vs new : Vars) (v : Var) → new ≡ vs ++ (v ∷ []) → have_sound_types vs ≡ true → is_sound_type v.decl.ty ≡ true → have_sound_types new ≡ true
@@ -39,10 +36,10 @@ sound_pushed vs new v e s t = ap have_sound_types e ∙ behind vs s
 -- the types of the elements with a flow are sound
 pub types_sound : (f : Flow) (vs : Vars) → have_sound_types vs ≡ true → All (λ b. is_sound_base b ≡ true) (types_with f vs)
 types_sound f [] e = λ k d h. absurd (omega (arith, h))
-types_sound f (v ∷ vs) e = step (same_flow f v.decl.flow) (types_sound f vs (both (is_sound_type v.decl.ty) (have_sound_types vs) e).1)
+types_sound f (v ∷ vs) e = step (same_flow f v.decl.flow) (types_sound f vs (and_parts (is_sound_type v.decl.ty) (have_sound_types vs) e).1)
   where
     step : (b : Bool) → All (λ b. is_sound_base b ≡ true) (types_with f vs) → All (λ b. is_sound_base b ≡ true) (if b then scalars v ++ types_with f vs else types_with f vs)
-    step true k = All-append (λ b. is_sound_base b ≡ true) (scalars v) (types_with f vs) (All-replicate (λ b. is_sound_base b ≡ true) (count_in v) v.decl.ty.base (base_sound v (both (is_sound_type v.decl.ty) (have_sound_types vs) e).0)) k
+    step true k = All-append (λ b. is_sound_base b ≡ true) (scalars v) (types_with f vs) (All-replicate (λ b. is_sound_base b ≡ true) (count_in v) v.decl.ty.base (base_sound v (and_parts (is_sound_type v.decl.ty) (have_sound_types vs) e).0)) k
     step false k = k
 
 -- a prefix of a line is one of the same line
