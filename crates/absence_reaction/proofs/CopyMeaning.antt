@@ -26,6 +26,7 @@ use Rattle.absence_reaction.specs.Meaning.{AreBits, AreDistinctBelow, AreWritesO
 use Rattle.absence_reaction.proofs.WriteLemmas.{acting, now_written, next_written}
 use Rattle.absence_reaction.proofs.ElementMeaning.{conflict_is, first_differs, flag_bit, flag_is, pending_is, quiet_alone, quiet_beside, unpended, value_is}
 use Rattle.quartz_expr.proofs.TruthLemmas.{or_parts}
+use Rattle.aif_cells.proofs.ItemLemmas.{get_before, set_longer}
 
 -- ---- what stays as it was
 
@@ -49,18 +50,8 @@ loosened f g h p = record { longer = p.longer; kept = λ k i e. p.kept k i (h k 
 same_extends : (f : ℕ → Bool) (a : List Defined) → Extends f a a
 same_extends f a = record { longer = omega arith; kept = λ k h e. refl }
 
-pub get_before : (xs ys : List Defined) (k : ℕ) → k < length xs → slice_get (xs ++ ys) k ≡ slice_get xs k
-get_before [] ys k h = absurd (omega (arith, h))
-get_before (x ∷ xs) ys zero h = refl
-get_before (x ∷ xs) ys (suc k) h = get_before xs ys k (omega (arith, h))
-
 appended : (xs ys : List Defined) → Extends none_free xs (xs ++ ys)
 appended xs ys = record { longer = omega (arith, length-append xs ys); kept = λ k h e. get_before xs ys k h }
-
-pub set_longer : (cs : List Defined) (k : ℕ) (x : Defined) → length cs ≡ length (slice_set cs k x)
-set_longer [] k x = refl
-set_longer (c ∷ cs) zero x = refl
-set_longer (c ∷ cs) (suc k) x = let e : length cs ≡ length (slice_set cs k x) = set_longer cs k x in omega (arith, e)
 
 pub get_other : (cs : List Defined) (n k : ℕ) (x : Defined) → (k == n) ≡ false → slice_get (slice_set cs n x) k ≡ slice_get cs k
 get_other [] n k x e = refl

@@ -21,7 +21,8 @@ use Rattle.absence_reaction.specs.declared.copy.Shape.{Shape}
 use Rattle.absence_reaction.specs.Closing.{Built, Copy, absence_of, arm_before, arms_for, can_conflict, closed_copy, closed_element, closed_from, conflict_made, disagrees, flag_made, flag_of, guard_for, has_pending, is_memorized, pending_made, pending_of, register_of, value_tree, watched_by}
 use Rattle.absence_reaction.specs.Meaning.{AreDistinctBelow, is_among}
 use Rattle.absence_reaction.specs.Earlier.{ActionIsBelow, ClosingNamesEarlier, IsBelow, IsIndexBelow, MonitorsAreBelow}
-use Rattle.absence_reaction.proofs.CopyMeaning.{after_flag, after_pending, conflict_extends, element_extends, flag_extends, flagged, from_extends, get_before, get_other, last_of, pended, pending_extends, set_longer, value_there, valued, watched_now}
+use Rattle.absence_reaction.proofs.CopyMeaning.{after_flag, after_pending, conflict_extends, element_extends, flag_extends, flagged, from_extends, get_other, last_of, pended, pending_extends, value_there, valued, watched_now}
+use Rattle.aif_cells.proofs.ItemLemmas.{get_before, get_new, set_longer}
 
 -- ---- trees
 
@@ -117,10 +118,6 @@ LateNameEarlier n cs = (k : ℕ) (c : Defined) → n ≤ k → slice_get cs k �
 no_late : (cs : List Defined) → LateNameEarlier (length cs) cs
 no_late cs k c le is = let lt : k < length cs = there cs k c is in absurd (omega (arith, lt, le))
 
-pub get_new : (xs : List Defined) (x : Defined) → slice_get (xs ++ x ∷ []) (length xs) ≡ Some x
-get_new [] x = refl
-get_new (y ∷ xs) x = get_new xs x
-
 pub the_one : (x c : Defined) → Some x ≡ Some c → x ≡ c
 the_one x c e = cc
 
@@ -179,9 +176,6 @@ alone_below n [] r e h = subst (IsBelow n) (nought r e) (All-nil (λ d. d < n))
     nought r e = cc
 alone_below n (t ∷ []) r e h = reference_below n t r e (All-head (Below n) t [] h)
 alone_below n (t ∷ u ∷ us) r e h = absurd (cc)
-
-trees_more : (n m : ℕ) (ts : List Tree) → n ≤ m → All (Below n) ts → All (Below m) ts
-trees_more n m ts le hs k d lt = below_more n m (cells_in (slice_index_or ts k d)) le (hs k d lt)
 
 flag_sound : (n : ℕ) (p : Place) (arms : List (Tree × Tree)) (cs : List Defined) → All (ArmIsBelow (length cs)) arms → LateNameEarlier n cs → MadeIsSound n (flag_made p arms cs)
 flag_sound n p arms cs hs late =

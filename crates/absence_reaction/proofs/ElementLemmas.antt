@@ -11,6 +11,7 @@ use Rattle.aif_cells.specs.Built.{Defined, Made, all_defined, defined, given_or_
 use Rattle.absence_reaction.specs.declared.copy.VarCopy.{VarCopy}
 use Rattle.absence_reaction.specs.declared.copy.Shape.{Shape}
 use Rattle.absence_reaction.specs.Closing.{Built, Element, arms_for, built, closed_element, conflict_made, disagrees, flag_made, has_pending, pending_made, value_tree, watched_by, can_conflict}
+use Rattle.aif_cells.proofs.ItemLemmas.{set_longer}
 
 abbrev pub made_of : Ref → List Defined → Made
 made_of r cs = record { ref = r; cells = cs }
@@ -46,11 +47,6 @@ closed_by v c j k β cs1 cs2 cs3 gs f p beside b4 b5 e1 e2 e3 e4 e5 e6 e7 =
     ∙ ap of_pending e4 ∙ ap of_flag e3 ∙ ap (λ g. of_flag (join v.place g cs1)) e2 ∙ ap (λ l. of_flag (join v.place (map (λ a. a.0) nexts) l)) e1
 
 -- ---- no cell is taken away
-
-set_longer : (cs : List Defined) (k : ℕ) (x : Defined) → length cs ≡ length (slice_set cs k x)
-set_longer [] k x = refl
-set_longer (c ∷ cs) zero x = refl
-set_longer (c ∷ cs) (suc k) x = let e : length cs ≡ length (slice_set cs k x) = set_longer cs k x in omega (arith, e)
 
 given_longer : (o : Option Ref) (t : Tree) (p : Place) (cs : List Defined) → length cs ≤ length (given_or_new o t p cs).cells
 given_longer (Some r) t p cs = omega arith

@@ -93,9 +93,6 @@ write_is σ x n j g w (Some (ref.Input i)) d h e = indexed_write (truth σ g) x 
 write_is σ x n j g w (Some (ref.Reg i)) d h e = indexed_write (truth σ g) x n j (read σ (ref.Reg i)) (read σ w) d h ∙ tested σ j g (ref.Reg i) w
 write_is σ x n j g w (Some (ref.Cell i)) d h e = indexed_write (truth σ g) x n j (read σ (ref.Cell i)) (read σ w) d h ∙ tested σ j g (ref.Cell i) w
 
-arm_of_action : (j : ℕ) → Action → List (Tree × Tree)
-arm_of_action j a = arm_before (guard_for j (value a.guard) a.index) a.value []
-
 action_writes : (σ : Assignment) (x n j : ℕ) (d : Bool) (a : Action) → j < n → IsWriteOf x d n a → writes_of x j d (act_of σ n a) ≡ acting σ (arm_before (guard_for j (value a.guard) a.index) a.value [])
 action_writes σ x n j d a h is =
     let z : ℤ = index_read σ a.index in

@@ -35,11 +35,6 @@ fits_small (negsuc n) f = omega (arith, f.sfits)
 pub negated : (a r : ℤ) → FitsSigned w64 a → FitsSigned w64 r → r ≡ int_wrapping_neg w64 (cast_signed w64 (cast_unsigned w64 a)) → cast_signed w64 (cast_unsigned w64 r) ≡ wrapped (neg_ℤ a)
 negated a r f g e = to_z-of_z w64 r g ∙ e ∙ ap (int_wrapping_neg w64) (to_z-of_z w64 a f) ∙ wrapping_neg_is w64 a f
 
-not_zero : (b : ℤ) → (b ≡ pos 0 → ⊥) → is_zero b ≡ false
-not_zero (pos zero) h = absurd (h refl)
-not_zero (pos (suc n)) h = refl
-not_zero (negsuc n) h = refl
-
 pub divided : (a b r : ℤ) → FitsSigned w64 a → FitsSigned w64 b → FitsSigned w64 r → is_zero b ≡ false
     → r ≡ int_wrapping_div w64 (cast_signed w64 (cast_unsigned w64 a)) (cast_signed w64 (cast_unsigned w64 b)) → cast_signed w64 (cast_unsigned w64 r) ≡ wrapped (quotient a b)
 divided a b r f g k z e =

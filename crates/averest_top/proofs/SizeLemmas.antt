@@ -31,17 +31,6 @@ outputs_begun vs (x ∷ xs) κ β =
     let new : length (new_cells vs x β) ≡ count_of vs x = numbers_counted (length β.cells) (count_of vs x) in
     omega (arith, more, longer, both, new)
 
--- where cells are kept, there are no fewer
-there : {A : Type 0} (xs : List A) (n : ℕ) → n < length xs → (x : A) × (slice_get xs n ≡ Some x)
-there [] n h = absurd (omega (arith, h))
-there (x ∷ xs) zero h = (x, refl)
-there (x ∷ xs) (suc n) h = there xs n (omega (arith, h))
-
-within : {A : Type 0} (xs : List A) (n : ℕ) (x : A) → slice_get xs n ≡ Some x → n < length xs
-within [] n x e = absurd (cc e)
-within (y ∷ ys) zero x e = omega arith
-within (y ∷ ys) (suc n) x e = let k : n < length ys = within ys n x e in omega (arith, k)
-
 -- building the body and closing the outputs makes cells alone
 pub outputs_few : (vs : Vars) (t : Term) → IsSoundModule vs t → length (compiled vs t).outputs ≤ length (compiled vs t).cells
 outputs_few vs t sound =

@@ -5,31 +5,17 @@ use Rattle.std.proofs.lemmas.Bool.{cases_lt}
 use Rattle.std.proofs.lemmas.List.{get_or_past}
 use Rattle.std.proofs.lemmas.List.Elements.{Contains-get_or, All-contains, Contains-append_cases, Contains-append_right, Contains-push_cases}
 use Rattle.causality_check.specs.Graph.{IsClosed, row}
+use Rattle.aif_cells.proofs.ItemLemmas.{at_place, in_first, in_others, in_cases}
 
 pub not_in_none : {A : Type 0} (x : A) → Contains [] x → ⊥
 not_in_none x h = omega (arith, h.1)
 
-pub in_first : {A : Type 0} (x : A) (xs : List A) → Contains (x ∷ xs) x
-in_first x xs = (0, omega arith, refl)
-
-pub in_others : {A : Type 0} (x : A) (xs : List A) (y : A) → Contains xs y → Contains (x ∷ xs) y
-in_others x xs y h = Contains-append_right (x ∷ []) xs y h
-
 pub in_one : {A : Type 0} (x y : A) → Contains (x ∷ []) y → x ≡ y
 in_one x y h = elim (Contains-push_cases [] x y h) [ inl a ↦ absurd (not_in_none y a) | inr e ↦ e ]
-
-pub in_cases : {A : Type 0} (x : A) (xs : List A) (y : A) → Contains (x ∷ xs) y → (x ≡ y) ⊎ Contains xs y
-in_cases x xs y h = elim (Contains-append_cases (x ∷ []) xs y h) [ inl a ↦ inl (in_one x y a) | inr b ↦ inr b ]
 
 -- what is in a row is in the table
 pub row_within : (g : List (List ℕ)) (k d : ℕ) → Contains (row g k) d → k < length g
 row_within g k d h = elim (cases_lt k (length g)) [ inl lt ↦ lt | inr ge ↦ absurd (not_in_none d (subst (λ (xs : List ℕ). Contains xs d) (get_or_past g k [] ge) h)) ]
-
--- the item at a place
-pub at_place : {A : Type 0} (xs : List A) (i : ℕ) (d : A) → i < length xs → slice_get xs i ≡ Some (get_or xs i d)
-at_place [] i d h = absurd (omega (arith, h))
-at_place (x ∷ xs) zero d h = refl
-at_place (x ∷ xs) (suc i) d h = at_place xs i d (omega (arith, h))
 
 -- ---- rows of cells that exist
 

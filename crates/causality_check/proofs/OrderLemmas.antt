@@ -12,8 +12,9 @@ use Rattle.causality_check.specs.Graph.{IsClosed, IsOnCycle, Needs, Walk, row}
 use Rattle.causality_check.specs.Order.{HasNoCycle, IsCycleAt, NamesCells}
 use Rattle.causality_check.specs.Shortest.{IsBestPath, IsCycleList, IsLeastOnCycle, Leads}
 use Rattle.causality_check.specs.Turns.{AllLeftAreHeldUp, AreInTurn, IsFree, IsLeastFree, IsStuck, SomeIsLeft}
-use Rattle.causality_check.proofs.GraphLemmas.{at_place, row_within}
+use Rattle.causality_check.proofs.GraphLemmas.{row_within}
 use Rattle.causality_check.proofs.ShortestLemmas.{leads_walk}
+use Rattle.aif_cells.proofs.ItemLemmas.{at_place}
 
 row_of : (cs : List Defined) (k : ℕ) (c : Defined) → slice_get cs k ≡ Some c → row (needs_of cs) k ≡ cells_in c.tree
 row_of [] k c e = absurd cc

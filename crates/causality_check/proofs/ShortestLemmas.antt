@@ -9,7 +9,8 @@ use Rattle.causality_check.specs.Search.{AreComponents}
 use Rattle.causality_check.specs.Shortest.{AreDistances, AreLevels, AreMarked, AreUsers, AreUsersBelow, DistanceIs, HaveUser, IsBestPath, IsDistance, IsLeastOnCycle, IsNearest, IsNearestAmong, IsUnderway, Leads, NearestIs, NeedsOwn, RanksFall, count_none, distance_at, users_of}
 use Rattle.causality_check.specs.Turns.{AllLeftAreHeldUp}
 use Rattle.causality_check.proofs.TurnLemmas.{row_push, row_push_kept, row_pushed}
-use Rattle.causality_check.proofs.GraphLemmas.{in_cases, in_first, in_one, in_others, not_in_none, row_within}
+use Rattle.causality_check.proofs.GraphLemmas.{in_one, not_in_none, row_within}
+use Rattle.aif_cells.proofs.ItemLemmas.{in_first, in_others, in_cases}
 
 none_is_not_some : (d : ℕ) → None ≡ Some d → ⊥
 none_is_not_some d e = cc

@@ -11,7 +11,8 @@ use Rattle.std.proofs.lemmas.List.Elements.{Contains-append_left, Contains-push,
 use Rattle.std.proofs.lemmas.Map.Lookups.{exact_unsigned}
 use Rattle.causality_check.specs.Graph.{row, Needs, IsClosed}
 use Rattle.causality_check.specs.Turns.{Adds, AllLeftAreHeldUp, AreInTurn, IsFree, IsLeastFree, IsSound, IsWaiting, PopsLeast, SomeIsLeft, Tables, count_true, counted}
-use Rattle.causality_check.proofs.GraphLemmas.{in_cases, in_first, in_one, in_others, not_in_none, row_within}
+use Rattle.causality_check.proofs.GraphLemmas.{in_one, not_in_none, row_within}
+use Rattle.aif_cells.proofs.ItemLemmas.{in_first, in_others, in_cases}
 
 -- ---- a key more
 

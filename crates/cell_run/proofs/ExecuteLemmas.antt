@@ -55,10 +55,6 @@ nexts_are σ (r ∷ rs) (suc n) = nexts_are σ rs n
 
 -- ---- outputs
 
-same_elements : (zss : List (List ℤ)) → meaning.elements zss ≡ elements zss
-same_elements [] = refl
-same_elements (zs ∷ zss) = ap (λ (ys : List ℤ). zs ++ ys) (same_elements zss)
-
 shown_are : (zs : List ℤ) (σ : Assignment) → σ.cells ≡ number_at zs → (os : List OutputCopy) → shown (output_cells os) zs ≡ elements (outputs_in σ os)
 shown_are zs σ e [] = refl
 shown_are zs σ e (o ∷ os) =

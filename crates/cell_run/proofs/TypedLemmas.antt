@@ -93,13 +93,6 @@ elements_of_inputs (v ∷ us) zs h = by_flow (same_flow Input v.decl.flow) (elem
 
 -- ---- outputs
 
-some_elements : (t : Ty) → is_sound_type t ≡ true → 1 ≤ unwrap_or t.len 1
-some_elements t h = at t.len (and_parts (is_sound_base t.base) (is_sound_length t.len) h).1
-  where
-    at : (o : Option ℕ) → is_sound_length o ≡ true → 1 ≤ unwrap_or o 1
-    at None e = omega arith
-    at (Some n) e = grind (arith, nat_tests, e)
-
 shown_output : (v : Var) (ins outs : List (List ℤ)) → v.decl.flow ≡ Output → shown v ins outs ≡ first_list outs
 shown_output v ins outs e = rw e refl
 

@@ -22,6 +22,7 @@ use Rattle.aif_cells.specs.Dependences.{DependsOn, cells_in, cells_in_all, cells
 use Rattle.aif_cells.specs.Order.{IsOrder, IsReady, TakesInTurn}
 use Rattle.aif_cells.specs.Solution.{IsSolution}
 use Rattle.cell_values.specs.Evaluated.{AreDone}
+use Rattle.aif_cells.proofs.ItemLemmas.{at_place}
 
 -- ---- the value of a tree depends on the cells in it alone
 
@@ -115,11 +116,6 @@ one_more cs is rs zs done k c before ready e h =
 
 -- ---- all cells
 
-within : (xs : List ℕ) (i : ℕ) → i < length xs → slice_get xs i ≡ Some (get_or xs i 0)
-within [] i h = absurd (omega (arith, h))
-within (x ∷ xs) zero h = refl
-within (x ∷ xs) (suc i) h = within xs i (omega (arith, h))
-
 not_true : (b : Bool) → (b ≡ true → ⊥) → b ≡ false
 not_true true h = absurd (h refl)
 not_true false h = refl
@@ -137,7 +133,7 @@ next_taken order i h =
     sym (take-suc order i 0 h) ∙ ap (λ (n : ℕ). take n order) e
 
 pub ready_at : (cs : List Defined) (order : List ℕ) → TakesInTurn cs order → (i : ℕ) → i < length order → IsReady cs (take i order) (get_or order i 0)
-ready_at cs order turn i h = (turn i (get_or order i 0) (within order i h)).ready
+ready_at cs order turn i h = (turn i (get_or order i 0) (at_place order i 0 h)).ready
 
 distinct : (cs : List Defined) (order : List ℕ) → TakesInTurn cs order → (i : ℕ) → i ≤ length order → IsDistinct eqb (take i order)
 unfolding IsDistinct

@@ -15,9 +15,10 @@ use Rattle.absence_reaction.specs.declared.copy.VarCopy.{VarCopy}
 use Rattle.absence_reaction.specs.declared.copy.Shape.{Shape}
 use Rattle.absence_reaction.specs.Closing.{Built, arms_for, can_conflict, closed_copy, closed_element, closed_from, conflict_made, disagrees, has_pending, pending_made, value_tree, watched_by}
 use Rattle.absence_reaction.specs.Meaning.{AreDistinctBelow, is_among}
-use Rattle.absence_reaction.proofs.CopyMeaning.{conflict_extends, element_extends, flagged, from_extends, last_of, pended, pending_extends, flag_extends, set_longer, valued, value_there, watched_now, not_among}
+use Rattle.absence_reaction.proofs.CopyMeaning.{conflict_extends, element_extends, flagged, from_extends, last_of, pended, pending_extends, flag_extends, valued, value_there, watched_now, not_among}
 use Rattle.absence_reaction.proofs.ElementMeaning.{last_there}
 use Rattle.statement_cells.proofs.GrowLemmas.{HasTree}
+use Rattle.aif_cells.proofs.ItemLemmas.{set_longer}
 
 -- a monitor on a conflict of an element: of a write with the value, or of two delayed writes; the cells have numbers that
 -- are in question

@@ -39,6 +39,7 @@ use Rattle.loose_runs.proofs.LooseLemmas.{QuietRegisters}
 use Rattle.loose_runs.proofs.QuietLemmas.{NoFlag, outputs_free, taken_free}
 use Rattle.macro_steps.proofs.NextRangeLemmas.{zero_first, zero_next}
 use Rattle.macro_steps.proofs.SoundLemmas.{scopes_start_zero}
+use Rattle.quartz_expr.proofs.TruthLemmas.{heads}
 
 -- registers that are 0 are no flags
 zero_free : (vs : Vars) (x v : ℕ) (k : Registers) → ((r : ℕ) → v ≤ r → k r ≡ pos 0) → NoFlag vs x v k
@@ -117,12 +118,6 @@ module _ (vs : Vars) (t : Term) (s : State) (ins : List (List ℤ)) (σ : Assign
 -- ---- at the start
 
 module _ (vs : Vars) (k : Registers) where
-  same_kept : {a b : Kept} {l m : Store} → a ∷ l ≡ b ∷ m → (a ≡ b) × (l ≡ m)
-  same_kept e = (cc, cc)
-
-  same_stores : {a b : Store} {l m : List Store} → a ∷ l ≡ b ∷ m → (a ≡ b) × (l ≡ m)
-  same_stores e = (cc, cc)
-
   plain_pending : (st : Storage) (a : Kept) → (plain_kept st a).pending ≡ a.pending
   plain_pending Mem a = refl
   plain_pending Event a = refl
@@ -141,17 +136,17 @@ module _ (vs : Vars) (k : Registers) where
       let a : Kept = record { value = z; pending = None } in
       let same : j ≡ j + zero = omega arith in
       subst (λ q. holds (k (flag_of s v q)) ≡ false) same
-      (unset s.delayed (holds (k (flag_of s v j))) (k (pending_of s v j)) (ap (λ (b : Kept). b.pending) (sym (same_kept e).0) ∙ plain_pending (storage_of vs x) a) d)
+      (unset s.delayed (holds (k (flag_of s v j))) (k (pending_of s v j)) (ap (λ (b : Kept). b.pending) (sym (heads _ _ _ _ e).0) ∙ plain_pending (storage_of vs x) a) d)
   fresh_free x v j (suc n) z e (suc i) l d =
       let same : (j + 1) + i ≡ j + suc i = omega arith in
-      subst (λ q. holds (k (flag_of (shape_in vs x) v q)) ≡ false) same (fresh_free x v (j + 1) n z (same_kept e).1 i (omega (arith, l)) d)
+      subst (λ q. holds (k (flag_of (shape_in vs x) v q)) ≡ false) same (fresh_free x v (j + 1) n z (heads _ _ _ _ e).1 i (omega (arith, l)) d)
 
   outputs_start_free : (xs : List ℕ) (v : ℕ) → plain_stores vs xs (map (fresh_store vs) xs) ≡ stores_of vs xs v k → (q a : ℕ) → OutAt vs xs v q a → NoFlag vs q a k
   outputs_start_free [] v e q a h = absurd h
   outputs_start_free (x ∷ xs) v e q a (inl h) =
       subst (λ y. NoFlag vs y a k) (sym h.0) (subst (λ u. NoFlag vs x u k) (sym h.1)
-      (λ j l d. let same : 0 + j ≡ j = omega arith in subst (λ i. holds (k (flag_of (shape_in vs x) v i)) ≡ false) same (fresh_free x v 0 (count_of vs x) (start_of vs x) (same_stores e).0 j l d)))
-  outputs_start_free (x ∷ xs) v e q a (inr h) = outputs_start_free xs (v + variable_registers vs x) (same_stores e).1 q a h
+      (λ j l d. let same : 0 + j ≡ j = omega arith in subst (λ i. holds (k (flag_of (shape_in vs x) v i)) ≡ false) same (fresh_free x v 0 (count_of vs x) (start_of vs x) (heads _ _ _ _ e).0 j l d)))
+  outputs_start_free (x ∷ xs) v e q a (inr h) = outputs_start_free xs (v + variable_registers vs x) (heads _ _ _ _ e).1 q a h
 
 pub initial_quiet : (vs : Vars) (body : Kernel) → QuietRegisters vs (term_of body) (initial_registers (compiled vs (term_of body)).registers)
 initial_quiet vs body q h =

@@ -16,7 +16,8 @@ use Rattle.causality_check.specs.Order.{HasNoCycle, NamesCells}
 use Rattle.statement_cells.specs.Builder.{tree_at}
 use Rattle.macro_steps.specs.Laws.{AcyclicHasOrder, OrderedIsAcyclic}
 use Rattle.macro_steps.proofs.AgreeLemmas.{among_contained}
-use Rattle.macro_steps.proofs.OrderLemmas.{Earlier, earlier, place_in, any_less, cell_at}
+use Rattle.macro_steps.proofs.OrderLemmas.{Earlier, earlier, place_in, cell_at}
+use Rattle.aif_cells.proofs.ItemLemmas.{any_less}
 
 -- ---- numbers of a list
 

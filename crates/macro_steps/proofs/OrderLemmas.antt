@@ -11,11 +11,7 @@ use Rattle.aif_cells.specs.Order.{IsOrder}
 use Rattle.aif_cells.proofs.SolutionLemmas.{there}
 use Rattle.absence_reaction.specs.Meaning.{is_among}
 use Rattle.macro_steps.proofs.AgreeLemmas.{among_contained}
-
-pub get_at : (xs : List ℕ) (i : ℕ) → i < length xs → slice_get xs i ≡ Some (get_or xs i 0)
-get_at [] i l = absurd (omega (arith, l))
-get_at (x ∷ xs) zero l = refl
-get_at (x ∷ xs) (suc i) l = get_at xs i (omega (arith, l))
+use Rattle.aif_cells.proofs.ItemLemmas.{distinct_by, any_less, at_place}
 
 pub cell_at : {A : Type 0} (cs : List A) (k : ℕ) → k < length cs → (c : A) × (slice_get cs k ≡ Some c)
 cell_at [] k h = absurd (omega (arith, h))
@@ -35,7 +31,7 @@ module _ (cs : List Defined) (order : List ℕ) (is : IsOrder cs order) where
       let size : length (take i order) ≡ i = length-take-le i order (omega (arith, l)) in
       let below : c.0 < i = omega (arith, c.1, size) in
       let same : get_or order c.0 0 ≡ d = get_or_default order c.0 0 d (omega (arith, below, l)) ∙ (sym (get_or-take i order c.0 d below) ∙ c.2) in
-      record { place = c.0; below = below; there = get_at order c.0 (omega (arith, below, l)) ∙ ap Some same }
+      record { place = c.0; below = below; there = at_place order c.0 0 (omega (arith, below, l)) ∙ ap Some same }
 
   -- what follows for a cell from all that it depends on holds of all cells of the order
   pub along : (P : ℕ → Type 0) → ((i k : ℕ) → slice_get order i ≡ Some k → ((d : ℕ) → DependsOn cs k d → P d) → P k)
@@ -46,7 +42,7 @@ module _ (cs : List Defined) (order : List ℕ) (is : IsOrder cs order) where
   -- ---- all cells are in the order
 
   placed : (i : ℕ) → i < length order → slice_get order i ≡ Some (get_or order i 0)
-  placed i l = get_at order i l
+  placed i l = at_place order i 0 l
 
   apart : (i j : ℕ) → i < j → j < length order → (get_or order i 0 ≡ get_or order j 0) → ⊥
   apart i j l m e =
@@ -55,37 +51,6 @@ module _ (cs : List Defined) (order : List ℕ) (is : IsOrder cs order) where
 
   is_less : (i : ℕ) → i < length order → get_or order i 0 < length cs
   is_less i l = (is.in_turn i (get_or order i 0) (placed i l)).ready.is_cell
-
-differs : (a b : ℕ) → (a ≡ b → ⊥) → (a == b) ≡ false
-differs a b h = at (a == b) refl
-  where
-    same : (a == b) ≡ true → a ≡ b
-    same e = grind (arith, nat_tests, e)
-
-    at : (c : Bool) → (a == b) ≡ c → c ≡ false
-    at true e = absurd (h (same e))
-    at false e = refl
-
--- different numbers by place are different by recursion
-distinct_all : (x : ℕ) (xs : List ℕ) → ((j : ℕ) → j < length xs → x ≡ get_or xs j 0 → ⊥) → AllByRecursion (λ y. (x == y) ≡ false) xs
-distinct_all x [] h = tt
-distinct_all x (y ∷ xs) h = (differs x y (h 0 (omega arith)), distinct_all x xs (λ j l. h (suc j) (omega (arith, l))))
-
-distinct_by : (xs : List ℕ) → ((i j : ℕ) → i < j → j < length xs → get_or xs i 0 ≡ get_or xs j 0 → ⊥) → IsDistinct (λ a b. a == b) xs
-unfolding IsDistinct
-distinct_by [] h = tt
-distinct_by (x ∷ xs) h = (distinct_all x xs (λ j l. h 0 (suc j) (omega arith) (omega (arith, l))), distinct_by xs (λ i j l m. h (suc i) (suc j) (omega (arith, l)) (omega (arith, m))))
-
-pub any_less : (xs : List ℕ) (n : ℕ) → ((i : ℕ) → i < length xs → get_or xs i 0 < n) → (q : ℕ) → list_any (λ b. q == b) xs ≡ true → q < n
-any_less [] n h q e = absurd (cc)
-any_less (x ∷ xs) n h q e = at (q == x) refl (any_less xs n (λ i l. h (suc i) (omega (arith, l))) q)
-  where
-    same : (q == x) ≡ true → q ≡ x
-    same p = grind (arith, nat_tests, p)
-
-    at : (b : Bool) → (q == x) ≡ b → (list_any (λ b. q == b) xs ≡ true → q < n) → q < n
-    at true p f = let less : x < n = h 0 (omega arith) in let eq = same p in omega (arith, less, eq)
-    at false p f = f (sym (ap (λ b. b || list_any (λ b. q == b) xs) p) ∙ e)
 
 -- the place of a number in a list
 place_of : (xs : List ℕ) (k : ℕ) → is_among k xs ≡ true → (i : ℕ) × (slice_get xs i ≡ Some k)

@@ -25,6 +25,7 @@ use Rattle.macro_steps.proofs.AbsentLemmas.{AllFit, fit_both}
 use Rattle.macro_steps.proofs.StoreLemmas.{OutputsIn}
 use Rattle.macro_steps.proofs.WantedLemmas.{outputs_reserved}
 use Rattle.quartz_expr.proofs.LawLemmas.{resolved_length}
+use Rattle.quartz_expr.proofs.TruthLemmas.{heads}
 
 -- ---- the value of a cell
 
@@ -93,14 +94,11 @@ CountsAre vs [] [] = Unit {0}
 CountsAre vs (x ∷ xs) (z ∷ zs) = (length z ≡ count_of vs x) × CountsAre vs xs zs
 CountsAre vs _ _ = ⊥
 
-same_stores : {a b : Store} {l m : List Store} → a ∷ l ≡ b ∷ m → (a ≡ b) × (l ≡ m)
-same_stores e = (cc, cc)
-
 pub counts_are : (vs : Vars) (xs : List ℕ) (v : ℕ) (k : Registers) (ws : List Act) (ss : List Store) → plain_stores vs xs ss ≡ stores_of vs xs v k → CountsAre vs xs (map values_of (next_stores vs xs ws ss))
 counts_are vs [] v k ws ss e = tt
 counts_are vs (x ∷ xs) v k ws [] e = absurd (cc)
 counts_are vs (x ∷ xs) v k ws (s ∷ ss) e =
-    (resolved_length (storage_of vs x) x ws 0 s ∙ sym (length_map _ s) ∙ ap length (same_stores e).0 ∙ length_kept (shape_in vs x) k v 0 (count_of vs x), counts_are vs xs (v + variable_registers vs x) k ws ss (same_stores e).1)
+    (resolved_length (storage_of vs x) x ws 0 s ∙ sym (length_map _ s) ∙ ap length (heads _ _ _ _ e).0 ∙ length_kept (shape_in vs x) k v 0 (count_of vs x), counts_are vs xs (v + variable_registers vs x) k ws ss (heads _ _ _ _ e).1)
 
 -- the values of outputs' cells
 abbrev pub outs_by : (ℕ → ℤ) → List OutputCopy → List (List ℤ)

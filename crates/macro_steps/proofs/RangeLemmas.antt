@@ -31,9 +31,10 @@ use Rattle.macro_steps.proofs.AgreeLemmas.{with_cells, worth_agrees}
 use Rattle.macro_steps.proofs.AbsentLemmas.{AllFit, HaveValues, ScopesHaveValues, absent_at, absent_below, absents_have, fit_both, scopes_fit}
 use Rattle.macro_steps.proofs.ForwardLemmas.{forward, forward_free, forward_meets}
 use Rattle.macro_steps.proofs.OpenLemmas.{IsOpen, begun_built, opened, scopes_between, scopes_recorded}
-use Rattle.macro_steps.proofs.OrderLemmas.{cell_at, earlier, get_at, place_in}
+use Rattle.macro_steps.proofs.OrderLemmas.{cell_at, earlier, place_in}
 use Rattle.macro_steps.proofs.StoreLemmas.{absent_is, absent_lies}
 use Rattle.macro_steps.proofs.WantedLemmas.{At', Wanted, all_wanted, body_absent, body_kept, body_listed, scope_place}
+use Rattle.aif_cells.proofs.ItemLemmas.{at_place}
 
 -- ---- the front of an order
 
@@ -280,7 +281,7 @@ module _ (vs : Vars) (t : Term) (s : State) (ins : List (List ℤ)) (σ : Assign
   front_lie zero le = none_lie (body_built vs t).reserved
   front_lie (suc n) le =
       let h = front_lie n (omega (arith, le)) in
-      more_lie n (get_or order n 0) (body_built vs t).reserved (get_at order n (omega (arith, le))) (wanted_at n h) h
+      more_lie n (get_or order n 0) (body_built vs t).reserved (at_place order n 0 (omega (arith, le))) (wanted_at n h) h
 
   all_lie : (rs : List Reserved) → Wanted vs (before (length order)) (compiled vs t).cells rs → LieOn vs σ (take (length order) order) rs → AllInRange vs σ rs
   all_lie [] w h = tt

@@ -30,6 +30,7 @@ use Rattle.statement_cells.proofs.MarkLemmas.{some_split}
 use Rattle.statement_cells.proofs.PlacedLemmas.{AbsentAt}
 use Rattle.macro_steps.specs.Ranges.{AllScopesLie, LieIn, OutputsLie, ScopesLie}
 use Rattle.macro_steps.proofs.AgreeLemmas.{with_cells}
+use Rattle.quartz_expr.proofs.TruthLemmas.{heads}
 
 -- ---- stores in registers
 
@@ -193,17 +194,14 @@ OutputsIn vs [] [] = Unit {0}
 OutputsIn vs (x ∷ xs) (z ∷ zs) = AllLie (range_of vs x) z × OutputsIn vs xs zs
 OutputsIn vs _ _ = ⊥
 
-same_stores : {a b : Store} {l m : List Store} → a ∷ l ≡ b ∷ m → (a ≡ b) × (l ≡ m)
-same_stores e = (cc, cc)
-
 -- what outputs resolve to lies in their ranges
 pub outputs_resolved : (vs : Vars) (xs : List ℕ) (v : ℕ) (k : Registers) (ws : List Act) (ss : List Store) → plain_stores vs xs ss ≡ stores_of vs xs v k → OutputsLie vs xs v k → ActsLie vs ws
     → OutputsIn vs xs (map values_of (next_stores vs xs ws ss))
 outputs_resolved vs [] v k ws ss e h g = tt
 outputs_resolved vs (x ∷ xs) v k ws [] e h g = absurd (cc)
 outputs_resolved vs (x ∷ xs) v k ws (s ∷ ss) e h g =
-    let own : StoreLies vs x (plain_store vs x s) = subst (StoreLies vs x) (sym (same_stores e).0) (store_lies vs x v k (λ p. h.0)) in
-    (store_resolved vs x ws 0 s (unplain_lies vs x s own) g, outputs_resolved vs xs (v + variable_registers vs x) k ws ss (same_stores e).1 h.1 g)
+    let own : StoreLies vs x (plain_store vs x s) = subst (StoreLies vs x) (sym (heads _ _ _ _ e).0) (store_lies vs x v k (λ p. h.0)) in
+    (store_resolved vs x ws 0 s (unplain_lies vs x s own) g, outputs_resolved vs xs (v + variable_registers vs x) k ws ss (heads _ _ _ _ e).1 h.1 g)
 
 -- ---- what copies have where nothing is written
 

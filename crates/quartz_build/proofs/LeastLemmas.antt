@@ -4,7 +4,8 @@ use Rattle.std.proofs.lemmas.Grind.{common_steps}
 use Rattle.std.proofs.lemmas.Bool.Decides.{nat_tests}
 use Rattle.quartz_tree.specs.declared.place.Place.{Place}
 use Rattle.quartz_tree.specs.Least.{is_before, lesser_place, least_place}
-use Rattle.causality_check.proofs.GraphLemmas.{in_cases, in_first, in_others, not_in_none}
+use Rattle.causality_check.proofs.GraphLemmas.{not_in_none}
+use Rattle.aif_cells.proofs.ItemLemmas.{in_first, in_others, in_cases}
 
 -- two places of which neither is before the other
 not_less : (a b c d : ℕ) → (nat_lt a b || ((a == b) && nat_lt c d)) ≡ false → (nat_lt b a || ((b == a) && nat_lt d c)) ≡ false → (a ≡ b) × (c ≡ d)

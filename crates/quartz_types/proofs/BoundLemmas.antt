@@ -10,15 +10,6 @@ use Rattle.quartz_expr.specs.Intervals.{Interval, are_sound_bits, base_interval,
 use Rattle.quartz_expr.proofs.TruthLemmas.{and_parts}
 use Rattle.quartz_expr.proofs.RangeLemmas.{base_ordered}
 
-one_at_least : (n m : ℕ) → (nat_le 1 n && nat_le n m) ≡ true → 1 ≤ n
-one_at_least n m h = grind (arith, nat_tests, (and_parts (nat_le 1 n) (nat_le n m) h).0)
-
-from_nought : (n : ℕ) → 1 ≤ n → pos 0 ≤ℤ (pos n -ℤ pos 1)
-from_nought n h = omega (arith, ints, h)
-
-around_nought : (n : ℕ) → 1 ≤ n → neg_ℤ (pos n) ≤ℤ (pos n -ℤ pos 1)
-around_nought n h = omega (arith, ints, h)
-
 no_less : (n : ℕ) → pos 0 ≤ℤ pos n
 no_less n = omega (arith, ints)
 

@@ -23,6 +23,7 @@ use Rattle.reincarnation.specs.Carrying.{Stores, arm_of, carried, carried_from, 
 use Rattle.reincarnation.specs.Entering.{reserved}
 use Rattle.reincarnation.specs.Meaning.{CarriesOneStore, CarryingGoesBack, CarryingKeeps, CarryingNamesEarlier, ClosedIsBelow, DepthIsCarried, EnteredIsBelow, EnteredIsCarried, EnteringReserves, IsBelow, carried_copy, next_at}
 use Rattle.reincarnation.proofs.CarryLemmas.{length-with_next}
+use Rattle.aif_cells.proofs.ItemLemmas.{get_before, get_new}
 
 -- ---- which copy is carried
 
@@ -60,17 +61,8 @@ follow p q = record {
 same_extends : (a : List Defined) → Extends none_free a a
 same_extends a = record { longer = omega arith; kept = λ k h e. refl }
 
-get_before : (xs ys : List Defined) (k : ℕ) → k < length xs → slice_get (xs ++ ys) k ≡ slice_get xs k
-get_before [] ys k h = absurd (omega (arith, h))
-get_before (x ∷ xs) ys zero h = refl
-get_before (x ∷ xs) ys (suc k) h = get_before xs ys k (omega (arith, h))
-
 appended : (xs ys : List Defined) → Extends none_free xs (xs ++ ys)
 appended xs ys = record { longer = omega (arith, length-append xs ys); kept = λ k h e. get_before xs ys k h }
-
-get_new : (xs : List Defined) (x : Defined) → slice_get (xs ++ x ∷ []) (length xs) ≡ Some x
-get_new [] x = refl
-get_new (y ∷ xs) x = get_new xs x
 
 taken_extends : (place : Place) (es : List Entered) (depth : ClosedRefs) (j : ℕ) (p : Part) (cs : List Defined) → Extends none_free cs (taken place es depth j p cs).cells
 taken_extends place [] depth j p cs = same_extends cs

@@ -24,12 +24,6 @@ use Rattle.quartz_expr.proofs.RangeLemmas.{zero_in_base, zero_in_type}
 
 -- ---- 0
 
-zero_from : (n : ℕ) → nat_le 1 n ≡ true → is_in (base_interval (base.Nat n)) (pos 0) ≡ true
-zero_from n h = grind (arith, ints, nat_tests, h)
-
-zero_between : (n : ℕ) → nat_le 1 n ≡ true → is_in (base_interval (base.Int n)) (pos 0) ≡ true
-zero_between n h = grind (arith, ints, nat_tests, h)
-
 pub zero_in : (vs : Vars) (x : ℕ) → is_in (range_of vs x) (pos 0) ≡ true
 zero_in [] x = refl
 zero_in (v ∷ vs) zero = zero_in_type v.decl.ty

@@ -140,10 +140,6 @@ acted b as' v a more e = record {
 
 -- ---- monitors
 
-tests-append : (ts us : List Boxed) → all_tests (ts ++ us) ≡ all_tests ts ++ all_tests us
-tests-append [] us = refl
-tests-append (t ∷ ts) us = ap (λ (xs : List Test). test_of t ∷ xs) (tests-append ts us)
-
 pub watch_more : (b0 b1 b : Builder) (ts us : List Boxed) (t : Boxed) → ts ≡ us ++ t ∷ [] → Does b0 b1 (λ κ. watch_one (test_of t)) → Does b1 b (λ κ. watch (all_tests (reverse us)))
     → Does b0 b (λ κ. watch (all_tests (reverse ts)))
 unfolding watch

@@ -14,13 +14,13 @@ use Rattle.aif_cells.specs.Built.{Defined}
 use Rattle.aif_cells.specs.Dependences.{DependsOn, cells_in, cells_named}
 use Rattle.aif_cells.proofs.SolutionLemmas.{there}
 use Rattle.absence_reaction.specs.Earlier.{ActionIsBelow, IsBelow, MonitorsAreBelow}
-use Rattle.absence_reaction.proofs.CopyMeaning.{get_before}
 use Rattle.statement_cells.specs.Expressions.{Copies, Test}
 use Rattle.statement_cells.specs.Builder.{Builder, Entry, Made, Reserved, Short, first, second, both, act, and_of, cell_of, enter, given, in_of, labels_tree, new, nowhere, not_of, or_of, pick, stay_at, watch, watch_one}
 use Rattle.statement_cells.specs.Earlier.{AreCopiesThere, HoldsBelow, IsOrdered, IsRefThere}
 use Rattle.statement_cells.proofs.EarlierTreeLemmas.{Below, TestsBelow}
 use Rattle.statement_cells.proofs.EarlierMoreLemmas.{copies_more, holds_more, monitors_more, ref_more, tests_more}
-use Rattle.absence_reaction.proofs.EarlierLemmas.{get_new, the_one}
+use Rattle.absence_reaction.proofs.EarlierLemmas.{the_one}
+use Rattle.aif_cells.proofs.ItemLemmas.{get_before, get_new}
 
 -- ---- later builders
 

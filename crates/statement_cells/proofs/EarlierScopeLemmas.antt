@@ -13,7 +13,7 @@ use Rattle.aif_cells.specs.Dependences.{DependsOn, cells_in}
 use Rattle.absence_reaction.specs.Closing.{closed_copy}
 use Rattle.absence_reaction.specs.Earlier.{ActionIsBelow, IsBelow}
 use Rattle.absence_reaction.specs.Meaning.{is_among}
-use Rattle.absence_reaction.proofs.CopyMeaning.{closing_keeps, get_before}
+use Rattle.absence_reaction.proofs.CopyMeaning.{closing_keeps}
 use Rattle.reincarnation.specs.declared.copy.ClosedRefs.{ClosedRefs}
 use Rattle.reincarnation.specs.Entering.{copies_of, numbers_from, reserved}
 use Rattle.reincarnation.specs.Meaning.{ClosedIsBelow, EnteredIsBelow}
@@ -31,6 +31,7 @@ use Rattle.statement_cells.proofs.EarlierLemmas.{CopiesHeld, Goes, GoesTo, Held,
 use Rattle.statement_cells.proofs.EarlierMoreLemmas.{activity_more, actions_more, closed_more, holds_more, scopes_more}
 use Rattle.quartz_expr.proofs.TruthLemmas.{or_left, or_right}
 use Rattle.reincarnation.proofs.MeaningLemmas.{last_is}
+use Rattle.aif_cells.proofs.ItemLemmas.{get_before}
 
 -- ---- reserved cells
 

@@ -34,6 +34,7 @@ use Rattle.statement_cells.proofs.GrowLemmas.{AllRecorded, HaveTrees}
 use Rattle.statement_cells.proofs.ScopeGrowLemmas.{among_numbers, has_tree, is_not, reserve_longer}
 use Rattle.statement_cells.proofs.ScopeCloseLemmas.{Closing, closes_in}
 use Rattle.statement_cells.proofs.ScopeTakesLemmas.{Says}
+use Rattle.quartz_expr.proofs.TruthLemmas.{heads}
 
 -- ---- scopes whose value cells meet their equations
 
@@ -165,12 +166,6 @@ module _ (vs : Vars) where
     memorized Mem k z e m = e
     memorized Event k z e m = absurd (cc)
 
-    same_kept : {a b : Kept} {l m : Store} → a ∷ l ≡ b ∷ m → (a ≡ b) × (l ≡ m)
-    same_kept e = (cc, cc)
-
-    same_stores : {a b : Store} {l m : List Store} → a ∷ l ≡ b ∷ m → (a ≡ b) × (l ≡ m)
-    same_stores e = (cc, cc)
-
     -- a store for which registers stand goes on from them
     stored_goes : (x v : ℕ) (β inner : Builder) (s : Store) (j f n : ℕ) → map (plain_kept (storage_of vs x)) s ≡ kept_from (shape_in vs x) σ.registers v j n
         → GoesOnFrom σ (shape_in vs x) (copy_here x v β inner) j s (numbers_from f n)
@@ -179,12 +174,12 @@ module _ (vs : Vars) where
     stored_goes x v β inner (k ∷ s) j f zero e = absurd (cc)
     stored_goes x v β inner (k ∷ s) j f (suc n) e =
         let sh : Shape = shape_in vs x in
-        let own : plain_kept (storage_of vs x) k ≡ kept_in sh σ.registers v j = (same_kept e).0 in (
+        let own : plain_kept (storage_of vs x) k ≡ kept_in sh σ.registers v j = (heads _ _ _ _ e).0 in (
           (
             λ m. memorized (storage_of vs x) k (σ.registers (register_of sh v j)) (ap (λ (q : Kept). q.value) own) m,
             sym (plain_pending (storage_of vs x) k) ∙ ap (λ (q : Kept). q.pending) own ∙ pended (sh.delayed && holds (σ.registers (flag_of sh v j))) (σ.registers (pending_of sh v j)),
           ),
-          stored_goes x v β inner s (j + 1) (f + 1) n (same_kept e).1,
+          stored_goes x v β inner s (j + 1) (f + 1) n (heads _ _ _ _ e).1,
         )
 
     first_cells : (x : ℕ) (β : Builder) → (reserve vs x true (first_of β)).cells ≡ (reserve vs x true β).cells
@@ -247,9 +242,9 @@ module _ (vs : Vars) where
         let grows = begun_grows vs xs κ' β' in
         let bigger : length inner.cells ≤ length one.cells = longer_one x v β inner in
         let built' : IsBuilt vs one = record { cells = λ k h. let less : k < length inner.cells = built.cells k h in omega (arith, less, bigger); writes = built.writes } in
-        let tail = end_all xs κ' β' (v + variable_registers vs x) one ss (omega (arith, longer, bigger)) built' extra splits (same_stores e).1 sol ranges inactive in
+        let tail = end_all xs κ' β' (v + variable_registers vs x) one ss (omega (arith, longer, bigger)) built' extra splits (heads _ _ _ _ e).1 sol ranges inactive in
         let room : length β'.cells ≤ length inner.cells = omega (arith, longer, grows.longer) in
-        let c = closing_one x v β inner s room built (grows.more ++ extra) (splits ∙ ap (λ l. l ++ extra) grows.reserved ∙ append_assoc β'.reserved grows.more extra) (same_stores e).0 tail.good in
+        let c = closing_one x v β inner s room built (grows.more ++ extra) (splits ∙ ap (λ l. l ++ extra) grows.reserved ∙ append_assoc β'.reserved grows.more extra) (heads _ _ _ _ e).0 tail.good in
         let given : List ℤ = cell_values σ (new_cells vs x β) in
         let size : length β.cells + count_of vs x ≡ length β'.cells = sym (reserve_longer vs x true β) in
         let same : given ≡ worths_of σ (map (tree_at one.cells) (new_cells vs x β)) =
@@ -300,9 +295,9 @@ module _ (vs : Vars) where
         let grows = begun_grows vs xs κ' β' in
         let bigger : length inner.cells ≤ length one.cells = longer_one x v β inner in
         let built' : IsBuilt vs one = record { cells = λ k h. let less : k < length inner.cells = built.cells k h in omega (arith, less, bigger); writes = built.writes } in
-        let tail = open_all xs κ' β' (v + variable_registers vs x) one ss (omega (arith, longer, bigger)) built' extra splits (same_stores e).1 met ranges inactive in
+        let tail = open_all xs κ' β' (v + variable_registers vs x) one ss (omega (arith, longer, bigger)) built' extra splits (heads _ _ _ _ e).1 met ranges inactive in
         let room : length β'.cells ≤ length inner.cells = omega (arith, longer, grows.longer) in
-        let c = closing_one x v β inner s room built (grows.more ++ extra) (splits ∙ ap (λ l. l ++ extra) grows.reserved ∙ append_assoc β'.reserved grows.more extra) (same_stores e).0 tail.good in
+        let c = closing_one x v β inner s room built (grows.more ++ extra) (splits ∙ ap (λ l. l ++ extra) grows.reserved ∙ append_assoc β'.reserved grows.more extra) (heads _ _ _ _ e).0 tail.good in
         let size : length β.cells + count_of vs x ≡ length β'.cells = sym (reserve_longer vs x true β) in
         let final : List Defined = (ended vs (begun vs (x ∷ xs) κ β).outputs v inner).built.cells in
         record {

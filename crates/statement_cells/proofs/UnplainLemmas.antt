@@ -16,11 +16,9 @@ use Rattle.quartz_expr.specs.Resolve.{absent, given_store, kept, others, resolve
 use Rattle.quartz_expr.specs.Tick.{tick, tick_all}
 use Rattle.quartz_expr.specs.React.{Met, React, ReactEach, Reaction, Reactions, ends, held_scope, meetings, sequence, store_of, unless_ended, of_nothing, of_pause, of_write, of_yes, of_no, of_none, of_turn, of_stop, of_par, of_loop, of_delayed_abort, of_delayed_suspend, of_spared_abort, of_spared_suspend, of_strong_abort, of_weak_abort, of_strong_suspend, of_weak_suspend, of_scope, of_nobody, of_beside}
 use Rattle.statement_cells.specs.Stands.{plain, plain_all, plain_kept, plain_store}
+use Rattle.quartz_expr.proofs.TruthLemmas.{heads}
 
 -- ---- stores
-
-same_items : {a b : Kept} {l m : Store} → a ∷ l ≡ b ∷ m → (a ≡ b) × (l ≡ m)
-same_items e = (cc, cc)
 
 resolved_alike : (st : Storage) (a b : Kept) (now : List ℤ) → plain_kept st a ≡ plain_kept st b → resolved st a now ≡ resolved st b now
 resolved_alike Mem a b now e = ap (λ (k : Kept). resolved Mem k now) e
@@ -29,19 +27,19 @@ resolved_alike Event a b now e = ap (λ (k : Kept). resolved Event k now) e
 -- what acts resolve doesn't depend on kept values of events
 store_alike : (st : Storage) (x : ℕ) (ws : List Act) (n : ℕ) (s u : Store) → map (plain_kept st) s ≡ map (plain_kept st) u → resolved_store st x ws n s ≡ resolved_store st x ws n u
 store_alike st x ws n [] [] e = refl
-store_alike st x ws n (a ∷ s) (b ∷ u) e = ap₂ (λ z l. kept z (writes_of x n true ws) ∷ l) (resolved_alike st a b (writes_of x n false ws) (same_items e).0) (store_alike st x ws (n + 1) s u (same_items e).1)
+store_alike st x ws n (a ∷ s) (b ∷ u) e = ap₂ (λ z l. kept z (writes_of x n true ws) ∷ l) (resolved_alike st a b (writes_of x n false ws) (heads _ _ _ _ e).0) (store_alike st x ws (n + 1) s u (heads _ _ _ _ e).1)
 store_alike st x ws n [] (b ∷ u) e = absurd (cc)
 store_alike st x ws n (a ∷ s) [] e = absurd (cc)
 
 length_alike : (st : Storage) (s u : Store) → map (plain_kept st) s ≡ map (plain_kept st) u → length s ≡ length u
 length_alike st [] [] e = refl
-length_alike st (a ∷ s) (b ∷ u) e = ap suc (length_alike st s u (same_items e).1)
+length_alike st (a ∷ s) (b ∷ u) e = ap suc (length_alike st s u (heads _ _ _ _ e).1)
 length_alike st [] (b ∷ u) e = absurd (cc)
 length_alike st (a ∷ s) [] e = absurd (cc)
 
 absent_alike : (st : Storage) (s u : Store) → map (plain_kept st) s ≡ map (plain_kept st) u → map (absent st) s ≡ map (absent st) u
 absent_alike st [] [] e = refl
-absent_alike st (a ∷ s) (b ∷ u) e = ap₂ (λ z l. kept z [] ∷ l) (resolved_alike st a b [] (same_items e).0) (absent_alike st s u (same_items e).1)
+absent_alike st (a ∷ s) (b ∷ u) e = ap₂ (λ z l. kept z [] ∷ l) (resolved_alike st a b [] (heads _ _ _ _ e).0) (absent_alike st s u (heads _ _ _ _ e).1)
 absent_alike st [] (b ∷ u) e = absurd (cc)
 absent_alike st (a ∷ s) [] e = absurd (cc)
 

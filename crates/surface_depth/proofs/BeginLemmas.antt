@@ -41,9 +41,6 @@ with_one [] x o n h e f = absurd (omega (arith, h))
 with_one (p ∷ os) zero o n h e f = ap (λ (k : ℕ). record o { copies = k + 1 } ∷ os) (cc) ∙ ap (λ (q : OpenVar). record q { copies = p.copies + 1 } ∷ os) e
 with_one (p ∷ os) (suc x) o n h e f = ap (λ (qs : List OpenVar). p ∷ qs) (with_one os x o n (omega (arith, h)) e f)
 
-same_number : (x : ℕ) → (x == x) ≡ true
-same_number x = grind (arith, nat_tests)
-
 counted : (os : List OpenVar) (x y : ℕ) → y < length os → open_copies (slice_get (with_copy os x) y) ≡ open_copies (slice_get os y) + one_if (x == y)
 counted [] x y h = absurd (omega (arith, h))
 counted (o ∷ os) zero zero h = refl

@@ -25,10 +25,6 @@ other l m h = grind (arith, nat_tests, h)
 same : (l m : ℕ) → l ≡ m → (m == l) ≡ true
 same l m h = grind (arith, nat_tests, h)
 
-refs_if : Bool → Ref → List Ref
-refs_if true r = r ∷ []
-refs_if false r = []
-
 -- the references of a label, with one more entry
 refs_more : (l : ℕ) (es : List Entry) (e : Entry) (b : Bool) → (e.label == l) ≡ b → refs_for l (es ++ e ∷ []) ≡ refs_for l es ++ (if b then e.under ∷ [] else [])
 refs_more l [] e b h = ap (λ (q : Bool). if q then e.under ∷ [] else []) h

@@ -20,9 +20,11 @@ use Rattle.write_conflicts.specs.Blocks.{Marks, ref_at, ref_of, silent}
 use Rattle.write_conflicts.specs.Tables.{AreColumns, AreCovered, HasPlace, said_at}
 use Rattle.write_conflicts.specs.Claims.{AreClaimsFrom, AreClaimsOf, AreYes, IsClaimButYes, IsClaimOf, IsDenied, IsDeniedAt, IsNumber, IsNumberAt, IsRegisterOf, SaysRegister}
 use Rattle.write_conflicts.proofs.BitLemmas.{no_bit}
-use Rattle.write_conflicts.proofs.OrderLemmas.{get_at, get_push, got_at, past, set_other, set_same, split, there}
+use Rattle.write_conflicts.proofs.OrderLemmas.{get_push, got_at, past, set_other, set_same, split}
 use Rattle.std.proofs.Math.ListN.{length-set}
 use Rattle.std.proofs.lemmas.List.{get_or_default}
+use Rattle.aif_cells.proofs.ItemLemmas.{at_place}
+use Rattle.aif_cells.proofs.SolutionLemmas.{there}
 
 -- ---- one more item, or none
 pushed : {A : Type 0} (xs new : List A) (y : A) (P : A → Type 0) → new ≡ xs ++ y ∷ [] → P y → ((x : A) → P x → y ≡ x) → (x : A) → Contains new x ↔ (Contains xs x ⊎ P x)
@@ -153,7 +155,7 @@ module _ (columns : List (List Said)) (i : ℕ) where
 
 module _ (columns : List (List Said)) (i : ℕ) where
   pub says_at : (bs : List Block) (mid new : List ℕ) (n : ℕ) (d : Block) (v : Said) → n < length bs → v ≡ said_at columns n i → ((l : ℕ) → Contains mid l ↔ SaysRegister bs columns i n l) → ((l : ℕ) → Contains new l ↔ (Contains mid l ⊎ IsRegisterOf (get_or bs n d) v.yes l)) → (l : ℕ) → Contains new l ↔ SaysRegister bs columns i (n + 1) l
-  says_at bs mid new n d v h q f g = says_by columns i bs mid new n (get_or bs n d) v (get_at bs n d h) q f g
+  says_at bs mid new n d v h q f g = says_by columns i bs mid new n (get_or bs n d) v (at_place bs n d h) q f g
 
 -- what is said by a block that is there, and by one that isn't
 pub in_column : (columns : List (List Said)) (p i : ℕ) (d col : List Said) (r : Said) → p < length columns → col ≡ get_or columns p d → r ≡ slice_index_or col i silent → r ≡ said_at columns p i
@@ -228,7 +230,7 @@ module _ (s : Scene) (bs : List Block) (columns : List (List Said)) (actions : L
       at i a c e h (inl lt) = p.before i a c lt e (sym (set_other claims n i (record (get_or claims n d) { yes = ys }) (λ q. omega (arith, lt, q))) ∙ h)
       at i a c e h (inr q) =
           let r : record (get_or claims n d) { yes = ys } ≡ c = same (record (get_or claims n d) { yes = ys }) c (sym (ap (slice_get (set claims n (record (get_or claims n d) { yes = ys }))) q ∙ set_same claims n (record (get_or claims n d) { yes = ys }) l) ∙ h) in
-          subst (IsClaimOf s bs a) r (p.behind n a (get_or claims n d) (omega arith) (ap (slice_get actions) (sym q) ∙ e) (get_at claims n d l) ys f)
+          subst (IsClaimOf s bs a) r (p.behind n a (get_or claims n d) (omega arith) (ap (slice_get actions) (sym q) ∙ e) (at_place claims n d l) ys f)
 
   pub claims_filled_at : (x : Claims) (cols : List (List Said)) (ys : List ℕ) → x ≡ get_or claims n x → n < length claims → cols ≡ columns → AreYes cols n ys → AreClaimsFrom (n + 1) s bs columns actions (set claims n (record x { yes = ys }))
   claims_filled_at x cols ys e l q f = subst (λ (c : Claims). AreClaimsFrom (n + 1) s bs columns actions (set claims n (record c { yes = ys }))) (sym e) (claims_filled x ys l (subst (λ (xs : List (List Said)). AreYes xs n ys) q f))

@@ -21,7 +21,7 @@ use Rattle.write_conflicts.specs.Blocks.{ref_at}
 use Rattle.write_conflicts.specs.Tables.{HasPlace}
 use Rattle.write_conflicts.specs.Claims.{AreBothClaimed, AreOpposed, HaveCommon, IsClaimOf, Meets, SomeExclude, is_way, registers_exclude, ways_part}
 use Rattle.write_conflicts.proofs.BitLemmas.{and_both, and_left, and_right, no_bit, some_bit}
-use Rattle.write_conflicts.proofs.OrderLemmas.{get_at}
+use Rattle.aif_cells.proofs.ItemLemmas.{at_place}
 
 -- ---- common bits
 pub common_of : (v w : ℕ) → bit_and v w < 2 ^ 64 → 0 < bit_and v w → HaveCommon v w
@@ -136,7 +136,7 @@ module _ (s : Scene) (bs : List Block) where
   meets_out : (a b : Action) (c d : Claims) → IsClaimOf s bs a c → IsClaimOf s bs b d → Meets c.no d.yes → (x : Ref) × Must s.cells (value a.guard) true x false × Must s.cells (value b.guard) true x true
   meets_out a b c d p q m =
       let lt = p.no_within m.place m.word m.denied in
-      let e = get_at bs m.place (record { group = group.Inputs; at = 0 }) lt in
+      let e = at_place bs m.place (record { group = group.Inputs; at = 0 }) lt in
       let k = m.common.0 in
       let block = get_or bs m.place (record { group = group.Inputs; at = 0 }) in
       (ref_at block k, ((p.no m.place m.word block e m.denied) k m.common.1).0 m.common.2, ((q.yes m.place block e) k m.common.1).0 m.common.3)

@@ -8,21 +8,13 @@ use Rattle.std.proofs.lemmas.Map.Steps.{length-le_from_distinct_below}
 use Rattle.aif_cells.specs.declared.cells.Cell.{Cell}
 use Rattle.aif_cells.specs.Built.{Defined, all_defined}
 use Rattle.aif_cells.specs.Order.{IsOrder}
-
-pub get_at : {A : Type 0} (xs : List A) (i : ℕ) (d : A) → i < length xs → slice_get xs i ≡ Some (get_or xs i d)
-get_at [] i d l = absurd (omega (arith, l))
-get_at (x ∷ xs) zero d l = refl
-get_at (x ∷ xs) (suc i) d l = get_at xs i d (omega (arith, l))
+use Rattle.aif_cells.proofs.ItemLemmas.{at_place, distinct_by, any_less}
+use Rattle.aif_cells.proofs.SolutionLemmas.{there}
 
 pub got_at : {A : Type 0} (xs : List A) (i : ℕ) (d x : A) → slice_get xs i ≡ Some x → get_or xs i d ≡ x
 got_at [] i d x e = absurd (cc)
 got_at (y ∷ xs) zero d x e = cc
 got_at (y ∷ xs) (suc i) d x e = got_at xs i d x e
-
-pub there : {A : Type 0} (xs : List A) (i : ℕ) (x : A) → slice_get xs i ≡ Some x → i < length xs
-there [] i x e = absurd (cc)
-there (y ∷ xs) zero x e = omega arith
-there (y ∷ xs) (suc i) x e = omega (arith, there xs i x e)
 
 pub none_there : {A : Type 0} (xs : List A) (i : ℕ) → slice_get xs i ≡ None → length xs ≤ i
 none_there [] i e = omega arith
@@ -80,37 +72,6 @@ mapped_item f (y ∷ xs) zero x d e = ap f (same e)
     same q = cc
 mapped_item f (y ∷ xs) (suc i) x d e = mapped_item f xs i x d e
 
-differs : (a b : ℕ) → (a ≡ b → ⊥) → (a == b) ≡ false
-differs a b h = at (a == b) refl
-  where
-    same : (a == b) ≡ true → a ≡ b
-    same e = grind (arith, nat_tests, e)
-
-    at : (c : Bool) → (a == b) ≡ c → c ≡ false
-    at true e = absurd (h (same e))
-    at false e = refl
-
--- different numbers by place are different by recursion
-distinct_all : (x : ℕ) (xs : List ℕ) → ((j : ℕ) → j < length xs → x ≡ get_or xs j 0 → ⊥) → AllByRecursion (λ y. (x == y) ≡ false) xs
-distinct_all x [] h = tt
-distinct_all x (y ∷ xs) h = (differs x y (h 0 (omega arith)), distinct_all x xs (λ j l. h (suc j) (omega (arith, l))))
-
-distinct_by : (xs : List ℕ) → ((i j : ℕ) → i < j → j < length xs → get_or xs i 0 ≡ get_or xs j 0 → ⊥) → IsDistinct (λ a b. a == b) xs
-unfolding IsDistinct
-distinct_by [] h = tt
-distinct_by (x ∷ xs) h = (distinct_all x xs (λ j l. h 0 (suc j) (omega arith) (omega (arith, l))), distinct_by xs (λ i j l m. h (suc i) (suc j) (omega (arith, l)) (omega (arith, m))))
-
-any_less : (xs : List ℕ) (n : ℕ) → ((i : ℕ) → i < length xs → get_or xs i 0 < n) → (q : ℕ) → list_any (λ b. q == b) xs ≡ true → q < n
-any_less [] n h q e = absurd (cc)
-any_less (x ∷ xs) n h q e = at (q == x) refl (any_less xs n (λ i l. h (suc i) (omega (arith, l))) q)
-  where
-    same : (q == x) ≡ true → q ≡ x
-    same p = grind (arith, nat_tests, p)
-
-    at : (b : Bool) → (q == x) ≡ b → (list_any (λ b. q == b) xs ≡ true → q < n) → q < n
-    at true p f = let less : x < n = h 0 (omega arith) in let eq = same p in omega (arith, less, eq)
-    at false p f = f (sym (ap (λ b. b || list_any (λ b. q == b) xs) p) ∙ e)
-
 -- a number is in a list or isn't
 among : (xs : List ℕ) (k : ℕ) → Contains xs k ⊎ ((j : ℕ) → j < length xs → k ≡ get_or xs j 0 → ⊥)
 among [] k = inr (λ j l e. omega (arith, l))
@@ -135,10 +96,10 @@ module _ (cs : List Defined) (order : List ℕ) (is : IsOrder cs order) where
   apart : (i j : ℕ) → i < j → j < length order → (get_or order i 0 ≡ get_or order j 0) → ⊥
   apart i j l m e =
       let size : length (take j order) ≡ j = length-take-le j order (omega (arith, m)) in
-      (is.in_turn j (get_or order j 0) (get_at order j 0 m)).ready.left (i, omega (arith, l, size), get_or-take j order i (get_or order j 0) l ∙ (get_or_default order i (get_or order j 0) 0 (omega (arith, l, m)) ∙ e))
+      (is.in_turn j (get_or order j 0) (at_place order j 0 m)).ready.left (i, omega (arith, l, size), get_or-take j order i (get_or order j 0) l ∙ (get_or_default order i (get_or order j 0) 0 (omega (arith, l, m)) ∙ e))
 
   pub is_less : (i : ℕ) → i < length order → get_or order i 0 < length cs
-  is_less i l = (is.in_turn i (get_or order i 0) (get_at order i 0 l)).ready.is_cell
+  is_less i l = (is.in_turn i (get_or order i 0) (at_place order i 0 l)).ready.is_cell
 
   all_apart : (k : ℕ) → ((j : ℕ) → j < length order → k ≡ get_or order j 0 → ⊥) → (i j : ℕ) → i < j → j < length (k ∷ order) → get_or (k ∷ order) i 0 ≡ get_or (k ∷ order) j 0 → ⊥
   all_apart k f i zero lt m same = omega (arith, lt)

@@ -14,7 +14,9 @@ use Rattle.write_conflicts.specs.declared.block.Block.{Block}
 use Rattle.write_conflicts.specs.Must.{Must, of_input, of_register, of_cell, of_cell_tree, of_not, of_left_and, of_right_and, of_left_or, of_right_or, of_both_or, of_both_and}
 use Rattle.write_conflicts.specs.Blocks.{ref_of}
 use Rattle.write_conflicts.specs.Tables.{AreCovered, HasPlace, HoldsGroup, greatest_in, greatest_number}
-use Rattle.write_conflicts.proofs.OrderLemmas.{get_at, got_at, split, there}
+use Rattle.write_conflicts.proofs.OrderLemmas.{got_at, split}
+use Rattle.aif_cells.proofs.ItemLemmas.{at_place}
+use Rattle.aif_cells.proofs.SolutionLemmas.{there}
 
 -- a reference with a number that the tree or a cell reaches to
 record IsReached (most : Group → ℕ) (t : Tree) (r : Ref) : Type 0 where
@@ -44,7 +46,7 @@ place_in_block : (bs : List Block) (g : Group) (n : ℕ) → Contains bs (record
 place_in_block bs g n m = record {
   block = record { group = g; at = n / 64 };
   at_block = m.0;
-  is_block = get_at bs m.0 (record { group = g; at = n / 64 }) m.1 ∙ ap Some m.2;
+  is_block = at_place bs m.0 (record { group = g; at = n / 64 }) m.1 ∙ ap Some m.2;
   at_bit = n % 64;
   within = omega arith;
   is_there = (let e : 64 * (n / 64) + n % 64 ≡ n = omega arith in ap (ref_of g) e);

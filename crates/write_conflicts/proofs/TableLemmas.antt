@@ -15,7 +15,9 @@ use Rattle.write_conflicts.specs.declared.block.Said.{Said}
 use Rattle.write_conflicts.specs.Blocks.{Says, in_addition, nothing, own, said, silent, told}
 use Rattle.write_conflicts.specs.Tables.{AreColumns, IsTable, IsTableFor, Tells, guard_says, said_at}
 use Rattle.write_conflicts.proofs.MustLemmas.{IsRow, row_of_none, row_of_tree, said_says, value_says}
-use Rattle.write_conflicts.proofs.OrderLemmas.{contained, get_at, got_at, mapped_item, new_item, none_there, old_item, past, split, there}
+use Rattle.write_conflicts.proofs.OrderLemmas.{contained, got_at, mapped_item, new_item, none_there, old_item, past, split}
+use Rattle.aif_cells.proofs.ItemLemmas.{at_place}
+use Rattle.aif_cells.proofs.SolutionLemmas.{there}
 
 module _ (cs : List Defined) (b : Block) where
   row_by : (τ : List Both) (c : ℕ) → length τ ≡ length cs → ((d : Defined) → slice_get cs c ≡ Some d → Says cs b d.tree (slice_index_or τ c nothing)) → IsRow cs b τ c
@@ -101,7 +103,7 @@ pub columns_at : (cs : List Defined) (bs : List Block) (actions : List Action) (
     → ((p i : ℕ) (b : Block) (a : Action) → p < n → slice_get bs p ≡ Some b → slice_get actions i ≡ Some a → Tells cs b a.guard (said_at cols p i))
     → (p i : ℕ) (b : Block) (a : Action) → p < n + 1 → slice_get bs p ≡ Some b → slice_get actions i ≡ Some a → Tells cs b a.guard (said_at new p i)
 columns_at cs bs actions cols new n d τ row col q size lt t r e g p i b a l h k = subst (λ (xs : List (List Said)). Tells cs b a.guard (said_at xs p i)) (sym q)
-    (columns_more cs bs actions cols n (get_or bs n d) col size (get_at bs n d lt) (column_tells cs (get_or bs n d) τ actions col t (e ∙ ap (λ (v : List Both). map (guard_says (get_or bs n d) v) actions) r)) g p i b a l h k)
+    (columns_more cs bs actions cols n (get_or bs n d) col size (at_place bs n d lt) (column_tells cs (get_or bs n d) τ actions col t (e ∙ ap (λ (v : List Both). map (guard_says (get_or bs n d) v) actions) r)) g p i b a l h k)
 
 pub columns_all : (cs : List Defined) (bs : List Block) (actions : List Action) (cols : List (List Said)) (n : ℕ) → length cols ≡ n → n ≡ length bs
     → ((p i : ℕ) (b : Block) (a : Action) → p < n → slice_get bs p ≡ Some b → slice_get actions i ≡ Some a → Tells cs b a.guard (said_at cols p i)) → AreColumns cs bs actions cols

@@ -13,21 +13,12 @@ use Rattle.write_conflicts.specs.Claims.{AreBothClaimed, AreClaimsOf}
 use Rattle.write_conflicts.specs.Loose.{AreLoose, IsLoosePair, IsLooseVar, Scene, later_place}
 use Rattle.write_conflicts.specs.Pairs.{ArePairsOf, greatest_count, place_in, place_of, scene}
 use Rattle.write_conflicts.specs.Tallies.{AreByVariable, AreEarlier, AreRising, IsSeen, IsTally, IsWrittenIn, row_of}
-use Rattle.write_conflicts.proofs.OrderLemmas.{get_at, new_item, old_item, set_other, set_same, split, there}
+use Rattle.write_conflicts.proofs.OrderLemmas.{new_item, old_item, set_other, set_same, split}
 use Rattle.write_conflicts.proofs.ClashLemmas.{loose_vars}
 use Rattle.std.proofs.lemmas.List.{get_or_default, get_or-set_other, get_or-set_same, get_or-take, length-append, length-take-le, take_all, take_more}
 use Rattle.std.proofs.lemmas.List.Elements.{Contains-append_left, Contains-get_or, Contains-push, Contains-push_cases}
-
--- ---- lists
-head_or_tail : {A : Type 0} (x : A) (xs : List A) (y : A) → Contains (x ∷ xs) y → (x ≡ y) ⊎ Contains xs y
-head_or_tail x xs y (zero, l, e) = inl e
-head_or_tail x xs y (suc k, l, e) = inr (k, omega (arith, l), e)
-
-tail_in : {A : Type 0} (x : A) (xs : List A) (y : A) → Contains xs y → Contains (x ∷ xs) y
-tail_in x xs y m = (suc m.0, omega (arith, m.1), m.2)
-
-head_in : {A : Type 0} (x : A) (xs : List A) → Contains (x ∷ xs) x
-head_in x xs = (0, omega arith, refl)
+use Rattle.aif_cells.proofs.ItemLemmas.{at_place, in_first, in_others, in_cases}
+use Rattle.aif_cells.proofs.SolutionLemmas.{there}
 
 all_false : (n x : ℕ) → slice_get (replicate n false) x ≡ Some true → ⊥
 all_false zero x e = cc
@@ -102,7 +93,7 @@ module _ (s : Scene) (actions : List Action) (variables : ℕ) where
     module _ (new : Pairs) (in_turn : i < j) (loose : AreLoose s a b) (unseen : Seen i j → ⊥) (p : IsTally s actions variables Seen found)
         (count : new.count ≡ min (found.count + 1) greatest_count) (least : new.least ≡ lesser_place (Some (later_place a.place b.place)) found.least) (flags : new.loose ≡ set found.loose a.var true) where
       sound_now : (x y : ℕ) → Contains ((i, j) ∷ p.pairs) (x, y) → IsLoosePair s actions x y × WithThis x y
-      sound_now x y m = at (head_or_tail (i, j) p.pairs (x, y) m)
+      sound_now x y m = at (in_cases (i, j) p.pairs (x, y) m)
         where
           here : ◌≡◌ {A = ℕ × ℕ} (i, j) (x, y) → IsLoosePair s actions x y × WithThis x y
           here e = subst (λ (q : ℕ × ℕ). IsLoosePair s actions q.0 q.1 × WithThis q.0 q.1) e (record { in_turn = in_turn; first = a; second = b; is_first = is_a; is_second = is_b; loose = loose }, inr (refl, refl))
@@ -112,8 +103,8 @@ module _ (s : Scene) (actions : List Action) (variables : ℕ) where
           at (inr n) = let q = p.sound x y n in (q.0, inl q.1)
 
       complete_now : (x y : ℕ) → IsLoosePair s actions x y → WithThis x y → Contains ((i, j) ∷ p.pairs) (x, y)
-      complete_now x y q (inl h) = tail_in (i, j) p.pairs (x, y) (p.complete x y q h)
-      complete_now x y q (inr e) = subst (λ (k : ℕ). Contains ((i, j) ∷ p.pairs) (k, y)) (sym e.0) (subst (λ (k : ℕ). Contains ((i, j) ∷ p.pairs) (i, k)) (sym e.1) (head_in (i, j) p.pairs))
+      complete_now x y q (inl h) = in_others (i, j) p.pairs (x, y) (p.complete x y q h)
+      complete_now x y q (inr e) = subst (λ (k : ℕ). Contains ((i, j) ∷ p.pairs) (k, y)) (sym e.0) (subst (λ (k : ℕ). Contains ((i, j) ∷ p.pairs) (i, k)) (sym e.1) (in_first (i, j) p.pairs))
 
       places_are : place_of actions (i, j) ≡ later_place a.place b.place
       places_are = ap (λ (o : Option Action). later_place (place_in o) (place_in (slice_get actions j))) is_a ∙ ap (λ (o : Option Action). later_place a.place (place_in o)) is_b
@@ -122,10 +113,10 @@ module _ (s : Scene) (actions : List Action) (variables : ℕ) where
       flag_there x l e = at (same_number a.var x)
         where
           older : IsWrittenIn actions p.pairs x → IsWrittenIn actions ((i, j) ∷ p.pairs) x
-          older w = record { i = w.i; j = w.j; among = tail_in (i, j) p.pairs (w.i, w.j) w.among; action = w.action; is_action = w.is_action; writes = w.writes }
+          older w = record { i = w.i; j = w.j; among = in_others (i, j) p.pairs (w.i, w.j) w.among; action = w.action; is_action = w.is_action; writes = w.writes }
 
           at : (a.var ≡ x) ⊎ (a.var ≡ x → ⊥) → IsWrittenIn actions ((i, j) ∷ p.pairs) x
-          at (inl q) = record { i = i; j = j; among = head_in (i, j) p.pairs; action = a; is_action = is_a; writes = q }
+          at (inl q) = record { i = i; j = j; among = in_first (i, j) p.pairs; action = a; is_action = is_a; writes = q }
           at (inr f) = older ((p.flagged x l).0 (sym (ap (λ (xs : List Bool). slice_get xs x) flags ∙ set_other found.loose a.var x true f) ∙ e))
 
       flag_back : (x : ℕ) → x < variables → IsWrittenIn actions ((i, j) ∷ p.pairs) x → slice_get new.loose x ≡ Some true
@@ -143,7 +134,7 @@ module _ (s : Scene) (actions : List Action) (variables : ℕ) where
 
           by_number : (a.var ≡ x) ⊎ (a.var ≡ x → ⊥) → slice_get (set found.loose a.var true) x ≡ Some true
           by_number (inl q) = ap (λ (k : ℕ). slice_get (set found.loose k true) x) q ∙ set_same found.loose x true fits
-          by_number (inr f) = set_other found.loose a.var x true f ∙ other f (head_or_tail (i, j) p.pairs (w.i, w.j) w.among)
+          by_number (inr f) = set_other found.loose a.var x true f ∙ other f (in_cases (i, j) p.pairs (w.i, w.j) w.among)
 
       pub tally_added : IsTally s actions variables WithThis new
       tally_added = record {
@@ -292,7 +283,7 @@ module _ (actions : List Action) (variables second : ℕ) (rows : List (List ℕ
   -- so for the action at this place of a list that is that of the actions
   module _ (xs : List Action) (e : xs ≡ actions) (n : ℕ) (m : n ≡ variables) (d : Action) (l : second < length actions) (r : ℕ) (q : r ≡ row_of n (get_or xs second d).var) where
     here_is : slice_get actions second ≡ Some (get_or xs second d)
-    here_is = get_at actions second d l ∙ ap (λ (ys : List Action). Some (get_or ys second d)) (sym e)
+    here_is = at_place actions second d l ∙ ap (λ (ys : List Action). Some (get_or ys second d)) (sym e)
 
     row_of_it : r ≡ row_of variables (get_or xs second d).var
     row_of_it = q ∙ ap (λ (k : ℕ). row_of k (get_or xs second d).var) m
@@ -322,10 +313,10 @@ rows_none actions variables rows e = record {
 -- ---- the next pair
 module _ (s : Scene) (actions xs : List Action) (e : xs ≡ actions) (variables : ℕ) (found : Pairs) (first second : ℕ) (d : Action) (in_turn : first < second) (within : second < length actions) where
   lesser_there : slice_get actions first ≡ Some (get_or xs first d)
-  lesser_there = get_at actions first d (omega (arith, in_turn, within)) ∙ ap (λ (ys : List Action). Some (get_or ys first d)) (sym e)
+  lesser_there = at_place actions first d (omega (arith, in_turn, within)) ∙ ap (λ (ys : List Action). Some (get_or ys first d)) (sym e)
 
   greater_there : slice_get actions second ≡ Some (get_or xs second d)
-  greater_there = get_at actions second d within ∙ ap (λ (ys : List Action). Some (get_or ys second d)) (sym e)
+  greater_there = at_place actions second d within ∙ ap (λ (ys : List Action). Some (get_or ys second d)) (sym e)
 
   pub skipped_at : (AreLoose s (get_or xs first d) (get_or xs second d) → ⊥) → (seen : List ℕ) → IsTally s actions variables (IsSeen seen second) found → IsTally s actions variables (IsSeen (seen ++ first ∷ []) second) found
   skipped_at f seen p = tally_same s actions variables (WithThis s actions variables (IsSeen seen second) found first second (get_or xs first d) (get_or xs second d) lesser_there greater_there) (IsSeen (seen ++ first ∷ []) second) found (λ i j t. this_next seen first second i j) (λ i j t. next_this seen first second i j)
@@ -340,8 +331,8 @@ module _ (s : Scene) (actions xs : List Action) (e : xs ≡ actions) (variables 
   pub claimed_at : (claims : List Claims) (x y : Claims) → AreClaimsOf s actions claims → x ≡ get_or claims first x → y ≡ get_or claims second y → AreBothClaimed s (get_or xs first d) (get_or xs second d) x y
   claimed_at claims x y p f g = record {
     blocks = p.blocks;
-    first = p.each first (get_or xs first d) x lesser_there (get_at claims first x (let size = p.size in omega (arith, size, in_turn, within)) ∙ ap Some (sym f));
-    second = p.each second (get_or xs second d) y greater_there (get_at claims second y (let size = p.size in omega (arith, size, within)) ∙ ap Some (sym g));
+    first = p.each first (get_or xs first d) x lesser_there (at_place claims first x (let size = p.size in omega (arith, size, in_turn, within)) ∙ ap Some (sym f));
+    second = p.each second (get_or xs second d) y greater_there (at_place claims second y (let size = p.size in omega (arith, size, within)) ∙ ap Some (sym g));
   }
 
 -- ---- all pairs were looked at
