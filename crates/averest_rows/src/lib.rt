@@ -1,4 +1,4 @@
-//! Rows of the whole program: the words, a text and a trace, and what comes of them; and texts of any bytes.
+//! Tests of the whole program, in tables of rows: the words, a text and a trace, and what comes of them; and texts of any bytes.
 #![tactic(auto)]
 
 #[cfg(test)]

@@ -199,7 +199,7 @@ const LOADS: [Asked; 6] = [
         "module N(bool ?x) { always { } }",
         "0|steps 3 bytes 3\nlast \n|",
     ),
-    // with a fault at the third step
+    // with a fault at step 3, the fourth
     (
         &["load", "M", "--seed", "5", "--steps", "9"],
         "module Over(nat{4} !n) { loop { next(n) = n + 1; pause; } }",

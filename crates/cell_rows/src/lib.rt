@@ -1,4 +1,4 @@
-//! Rows of cells: trees, copies of variables, expressions, statements, orders and loose pairs, by themselves.
+//! Tests of cells, in tables of rows: trees, copies of variables, expressions, statements, orders and loose pairs, by themselves.
 #![tactic(auto)]
 
 #[cfg(test)]

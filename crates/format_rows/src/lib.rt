@@ -1,4 +1,4 @@
-//! Rows of what is read and written: command words, traces, and the adapters to the operating system.
+//! Tests of what is read and written, in tables of rows: command words, traces, and the adapters to the operating system.
 #![tactic(auto)]
 
 #[cfg(test)]

@@ -1,4 +1,4 @@
-//! Rows of the front: texts, their tokens and trees, names, kinds, intervals and values, and what is said of them.
+//! Tests of the front, in tables of rows: texts, their tokens and trees, names, kinds, intervals and values, and what is said of them.
 #![tactic(auto)]
 
 #[cfg(test)]

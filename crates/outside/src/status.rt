@@ -28,7 +28,7 @@ pub enum Status {
     WriteFault,
     /// The trace goes on behind the greatest number of steps.
     StepLimit,
-    /// A growth was refused.
+    /// Memory was refused, or numbers outgrew the room that they have.
     NoMemory,
     /// The witness is none, at this step.
     BadWitness { step: u32 },

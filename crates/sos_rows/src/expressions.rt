@@ -91,7 +91,7 @@ fn ranges(rt: HostRuntime) -> Result<(), Fail> {
     values(&rt, rt.alloc(), "nat{4}", &RANGES)
 }
 
-const TRUTHS: [Valued; 20] = [
+const TRUTHS: [Valued; 22] = [
     ("true", "1"),
     ("b & c", "0"),
     ("b | c", "1"),
@@ -109,6 +109,8 @@ const TRUTHS: [Valued; 20] = [
     ("n >= 5", "1"),
     ("p == q", "0"),
     ("p != q", "1"),
+    ("p{1}", "1"),
+    ("p{2}", "0"),
     ("b ? c : b", "0"),
     ("t[n] == 0", "1 index 2:5"),
     ("c & x / (y - 2) == 0", "0 divisor 2:11"),
