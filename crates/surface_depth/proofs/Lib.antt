@@ -1,7 +1,6 @@
 pub mod BeginLemmas
 pub mod CarryLemmas
 pub mod CopyLemmas
-pub mod CountLemmas
 pub mod EndLemmas
 pub mod LabelLemmas
 pub mod ListLemmas

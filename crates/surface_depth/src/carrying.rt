@@ -173,7 +173,7 @@ fn take_chain(
 /// Registers of a statement's scopes take what their copies have, where they begin at the first one. It
 /// gives the number behind them.
 #[cycle(scopes)]
-#[tactic(auto, using(crate::proofs::CountLemmas::labels_unscoped))]
+#[tactic(auto, using(statement_builder::proofs::ChainLemmas::labels_unscoped))]
 pub(crate) fn take_scopes(
     alloc: Global,
     aif: &mut Aif,

@@ -50,7 +50,7 @@ fn length_of(vars: &[Var], var: u32) -> Option<u128>
 }
 
 /// How many elements a variable has.
-#[tactic(auto, using(expression_cells::proofs::LiteralLemmas::count_small))]
+#[tactic(auto, using(quartz_expr::proofs::RangeLemmas::count_small))]
 pub(crate) fn count_elements(vars: &[Var], var: u32) -> u32
     requires { have_sound_types vars.now ≡ true }
     ensures count { result ≡ count_of vars.now var }
