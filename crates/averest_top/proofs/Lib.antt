@@ -4,3 +4,4 @@ pub mod TaskLemmas
 pub mod SizeLemmas
 pub mod EndLemmas
 pub mod ConflictLemmas
+pub mod CompleteLemmas

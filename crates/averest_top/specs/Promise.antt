@@ -5,7 +5,10 @@ use Rattle.outside.specs.declared.status.Status.TheVariants.{Usage, ModuleUnavai
 use Rattle.quartz_tree.specs.Kernel.{Kernel}
 use Rattle.quartz_tree.specs.Surfaces.{ModuleTree}
 use Rattle.quartz_expr.specs.Vars.{Vars}
-use Rattle.cell_run.specs.Told.{Told, ToldWhole, ToldBegun}
+use Rattle.outside.specs.Bytes.{Gains}
+use Rattle.trace_io.specs.Lines.{joined_lines}
+use Rattle.trace_io.specs.Story.{End}
+use Rattle.cell_run.specs.Told.{Told, ToldWhole, ToldBegun, status_of}
 use Rattle.quartz_build.specs.declared.fault.BuildFault.{BuildFault}
 use Rattle.quartz_build.specs.declared.fault.BuildFault.TheVariants as fault
 use Rattle.quartz_build.specs.Broken.{IsAccepted, Refuses}
@@ -43,6 +46,10 @@ Outcome vs body trace greatest before after left shelf_rose input_rose out_rose 
     ⊎ (((status ≡ ReadFault) × input_rose × ToldWhole vs body trace greatest before after left)
     ⊎ (((status ≡ WriteFault) × out_rose × ToldBegun vs body trace greatest before after)
     ⊎ Told vs body trace greatest before after left status))
+
+-- the status is the end of a story and the sink gained its lines, but for want of memory
+abbrev pub HasTold : (before after : List ℕ → Type 0) → (written : List (List ℕ)) → End → Status → Type 0
+HasTold before after written end status = (status ≡ NoMemory) ⊎ ((status ≡ status_of end) × Gains before after (joined_lines written))
 
 -- the statuses with which nothing is read of the trace and nothing written
 abbrev pub ComesBefore : Status → Type 0

@@ -8,6 +8,7 @@ ghost use Rattle.outside.specs.Words.{meant};
 ghost use Rattle.outside.specs.Report.{report_line};
 ghost use Rattle.outside.specs.declared.words.Command.{Command as Order};
 ghost use Rattle.trace_io.specs.Held.{CalledAtMost};
+ghost use Rattle.trace_io.specs.Story.{End, Story};
 ghost use Rattle.load_run.specs.Load.{Loaded};
 ghost use Rattle.loose_runs.specs.Laws.{FlaggedAt};
 ghost use Rattle.quartz_build.specs.Broken.{IsAccepted, Refuses, term_in};
@@ -15,7 +16,7 @@ ghost use Rattle.averest_top.specs.declared.task.Task.{Task as Demand};
 ghost use Rattle.averest_top.specs.declared.task.Task.TheVariants.{Run as run_task, Check as check_task, Aif as aif_task, Load as load_task};
 ghost use Rattle.averest_top.specs.Commands.{asked_in, calls_asked, is_run, is_strict_in, not_built, task_in, task_meant};
 ghost use Rattle.averest_top.specs.Tasks.{SaysSize, WritesCells};
-ghost use Rattle.averest_top.specs.Promise.{CanCome, ComesBefore, ComesWith, HasText, IsExcused, LacksText, OfText, Outcome};
+ghost use Rattle.averest_top.specs.Promise.{CanCome, ComesBefore, ComesWith, HasText, HasTold, IsExcused, LacksText, OfText, Outcome};
 
 use crate::fetching::{do_module, status_of_fault};
 use crate::task::{module_of, task_of};
@@ -143,6 +144,13 @@ pub fn averest<
         (m : ModuleTree) (trace : List ℕ) → IsAccepted false text m → S.left input.old ≡ Some trace →
         Outcome (resolved_vars m) (resolved_body m) trace most (O.stands out.old) (O.stands out.new) (S.left input.new)
         (Rose (F.faults shelf.old) (F.faults shelf.new)) (Rose (S.faults input.old) (S.faults input.new)) (Rose (O.faults out.old) (O.faults out.new)) result }
+
+    // Where no count rises it has told whatever story the semantics has of that text over that trace.
+    ensures complete { (name text : List ℕ) (most : ℕ) → task_meant words.now ≡ Some (name, run_task most) → HasText (F.texts shelf.old) name text →
+        (m : ModuleTree) (trace : List ℕ) → IsAccepted false text m → S.left input.old ≡ Some trace →
+        ¬ (Rose (F.faults shelf.old) (F.faults shelf.new)) → ¬ (Rose (S.faults input.old) (S.faults input.new)) → ¬ (Rose (O.faults out.old) (O.faults out.new)) →
+        (written : List (List ℕ)) (end : End) → Story (resolved_vars m) (resolved_body m) trace most written end →
+        HasTold (O.stands out.old) (O.stands out.new) written end result }
 
     // With `check` it is said how many cells, registers and loose pairs of writes its module has.
     ensures size { (name text : List ℕ) (strict : Bool) → task_meant words.now ≡ Some (name, check_task strict) → HasText (F.texts shelf.old) name text →

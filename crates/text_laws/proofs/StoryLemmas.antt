@@ -1,10 +1,11 @@
 -- The story of an accepted text is the one that its cells compute.
-use Rattle.std.proofs.Common.{◌≡◌, ◌<◌, ℕ, ◌+◌, ℤ, pos, Bool, true, false, List, [], ◌∷◌, length, Option, Some, None, if◌then◌else◌, refl, sym, ap, ap₂, subst, ◌∙◌, arith}
+use Rattle.std.proofs.Common.{◌≡◌, ◌<◌, ℕ, ◌+◌, ℤ, pos, Bool, true, false, List, [], ◌∷◌, ◌≤◌, length, Option, Some, None, if◌then◌else◌, refl, sym, ap, ap₂, subst, ◌∙◌, arith}
 use Rattle.std.specs.Prelude.{◌==◌}
 use Rattle.std.proofs.lemmas.Bool.Decides.{nat_tests}
 use Rattle.quartz_tree.specs.declared.fault.Fault.{Fault}
 use Rattle.quartz_tree.specs.Kernel.{Kernel}
 use Rattle.quartz_tree.specs.Least.{least_fault}
+use Rattle.quartz_tree.specs.Surfaces.{ModuleTree}
 use Rattle.quartz_expr.specs.Steps.{State, Macro, initial}
 use Rattle.quartz_expr.specs.Terms.{Term, term_of}
 use Rattle.quartz_expr.specs.Typed.{have_sound_types}
@@ -14,7 +15,7 @@ use Rattle.aif_cells.specs.declared.cells.Register.{Register}
 use Rattle.aif_cells.specs.Order.{IsOrder}
 use Rattle.aif_cells.specs.Worth.{Assignment, number_at}
 use Rattle.absence_reaction.specs.Meaning.{raised}
-use Rattle.statement_cells.specs.Meaning.{AreInputs, IsSoundModule, StandsFor, initial_registers, inputs_of, next_registers, outputs_in}
+use Rattle.statement_cells.specs.Meaning.{AreInputs, IsMacroStep, IsSoundModule, StandsFor, initial_registers, inputs_of, next_registers, outputs_in}
 use Rattle.statement_cells.specs.Stands.{Registers}
 use Rattle.statement_cells.specs.Whole.{beginning, compiled}
 use Rattle.statement_cells.proofs.EarlierCompiledLemmas.{compiled_names_before}
@@ -34,9 +35,10 @@ use Rattle.trace_io.specs.Story.{End, done, bad, limit, fault, StoryFrom, by_inp
 use Rattle.trace_io.specs.Writing.{line_of}
 use Rattle.cell_run.proofs.InputLemmas.{AreStepsOf, have_zero, steps_are}
 use Rattle.cell_run.proofs.TypedLemmas.{inputs_are}
-use Rattle.text_laws.specs.Stories.{StoriesAreOne}
+use Rattle.quartz_build.specs.Broken.{IsAccepted}
+use Rattle.text_laws.specs.Stories.{StoriesAreOne, StoriesExist}
 use Rattle.text_laws.proofs.VerdictLemmas.{well_typed_is_sound}
-use Rattle.macro_steps.proofs.RunLemmas.{next_listed, initial_listed}
+use Rattle.macro_steps.proofs.RunLemmas.{initial_listed, next_listed, none_least}
 
 -- lines, and an end
 record Telling : Type 0 where
@@ -160,13 +162,62 @@ module _ (vs : Vars) (body : Kernel) (sound : IsSoundModule vs (term_of body)) (
   whole_told : (trace : List ℕ) (written : List (List ℕ)) (e : End) → StoryFrom vs greatest 0 (initial vs body) (steps vs trace) written e → IsTold 0 (initial_values regs) (steps vs trace) written e
   whole_told trace written e h = story_told 0 (initial vs body) (steps vs trace) written e h (initial_values regs) stood_first (steps_are vs (lines trace) (have_zero vs types))
 
+  -- what the cells tell is a story
+  told_is_story : (k : ℕ) (s : State) (rs : List ℤ) (steps : List (Option (List ℤ))) → Stood rs s → AreStepsOf (input_types vs) steps → k ≤ greatest
+      → StoryFrom vs greatest k s steps (tells k rs steps).written (tells k rs steps).end
+  told_is_story k s rs [] h a le = is_done k s
+  told_is_story k s rs (None ∷ rest) h a le = is_bad k s rest
+  told_is_story k s rs (Some zs ∷ rest) h a le = by (k == greatest) refl (told_is_story (k + 1) here.0.next (next_values (step_of rs zs) regs) rest after a.1)
+    where
+      here : IsMacroStep vs t s (by_input vs zs) (step_of rs zs) × RegistersLie vs t (next_registers (step_of rs zs) regs)
+      here = sound_by vs t s (by_input vs zs) (step_of rs zs) order sound is h.stands (is_solved rs s zs h (inputs_are vs zs types a.0))
+
+      after : Stood (next_values (step_of rs zs) regs) here.0.next
+      after = stood_at (next_registers (step_of rs zs) regs) (next_values (step_of rs zs) regs) here.0.next (λ j r. next_listed (step_of rs zs) regs r j) here.0.stands here.1
+
+      next : Telling
+      next = tells (k + 1) (next_values (step_of rs zs) regs) rest
+
+      line : List ℕ
+      line = line_of vs (elements (outs_of rs zs))
+
+      goes : (o : Option Fault) → least_fault (faults_of rs zs) ≡ o → k < greatest → StoryFrom vs greatest (k + 1) here.0.next rest next.written next.end
+          → StoryFrom vs greatest k s (Some zs ∷ rest) (goes_on k line o next).written (goes_on k line o next).end
+      goes (Some f) e lt r = is_fault k s zs rest (outs_of rs zs) here.0.next (faults_of rs zs) f lt here.0.step e
+      goes None e lt r =
+          is_step k s zs rest (outs_of rs zs) here.0.next next.written next.end lt
+          (subst (λ (fs : List Fault). Macro vs s (by_input vs zs) (outs_of rs zs) here.0.next fs) (none_least (faults_of rs zs) e) here.0.step) r
+
+      by : (b : Bool) → (k == greatest) ≡ b → (k + 1 ≤ greatest → StoryFrom vs greatest (k + 1) here.0.next rest next.written next.end)
+          → StoryFrom vs greatest k s (Some zs ∷ rest)
+          (if b then record { written = []; end = limit } else goes_on k line (least_fault (faults_of rs zs)) next).written
+          (if b then record { written = []; end = limit } else goes_on k line (least_fault (faults_of rs zs)) next).end
+      by true e r = let same : k ≡ greatest = grind (arith, nat_tests, e) in is_limit k s zs rest same
+      by false e r = let less : k < greatest = grind (arith, nat_tests, e, le) in goes (least_fault (faults_of rs zs)) refl less (r (omega (arith, less)))
+
+  whole_exists : (trace : List ℕ) → StoryFrom vs greatest 0 (initial vs body) (steps vs trace) (tells 0 (initial_values regs) (steps vs trace)).written (tells 0 (initial_values regs) (steps vs trace)).end
+  whole_exists trace = told_is_story 0 (initial vs body) (initial_values regs) (steps vs trace) stood_first (steps_are vs (lines trace) (have_zero vs types)) (omega arith)
+
+-- the cells of an accepted text have an order
+ordered : (text : List ℕ) (m : ModuleTree) → IsAccepted false text m → (order : List ℕ) × IsOrder (compiled (resolved_vars m) (term_of (resolved_body m))).cells order
+ordered text m accepted =
+    let cells = (compiled (resolved_vars m) (term_of (resolved_body m))).cells in
+    acyclic_has_order cells (compiled_names_before (resolved_vars m) (term_of (resolved_body m))).named accepted.good.acyclic
+
+pub stories_exist : StoriesExist
+stories_exist text m trace greatest accepted =
+    let vs : Vars = resolved_vars m in
+    let body : Kernel = resolved_body m in
+    let sound : IsSoundModule vs (term_of body) = well_typed_is_sound text m accepted.typed in
+    let along = ordered text m accepted in
+    (_, _, whole_exists vs body sound along.0 along.1 greatest trace)
+
 pub stories_are_one : StoriesAreOne
 stories_are_one text m trace greatest written others end other accepted a b =
     let vs : Vars = resolved_vars m in
     let body : Kernel = resolved_body m in
     let sound : IsSoundModule vs (term_of body) = well_typed_is_sound text m accepted.typed in
-    let ordered : (order : List ℕ) × IsOrder (compiled vs (term_of body)).cells order =
-    acyclic_has_order (compiled vs (term_of body)).cells (compiled_names_before vs (term_of body)).named accepted.good.acyclic in
-    let one = whole_told vs body sound ordered.0 ordered.1 greatest trace written end a in
-    let two = whole_told vs body sound ordered.0 ordered.1 greatest trace others other b in
+    let along = ordered text m accepted in
+    let one = whole_told vs body sound along.0 along.1 greatest trace written end a in
+    let two = whole_told vs body sound along.0 along.1 greatest trace others other b in
     (one.0 ∙ sym two.0, one.1 ∙ sym two.1)

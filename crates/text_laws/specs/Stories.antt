@@ -10,3 +10,8 @@ abbrev pub StoriesAreOne : Type 0
 StoriesAreOne = (text : List ℕ) (m : ModuleTree) (trace : List ℕ) (greatest : ℕ) (written others : List (List ℕ)) (end other : End)
     → IsAccepted false text m → Story (resolved_vars m) (resolved_body m) trace greatest written end → Story (resolved_vars m) (resolved_body m) trace greatest others other
     → (written ≡ others) × (end ≡ other)
+
+-- and it has one, whatever the greatest number of steps
+abbrev pub StoriesExist : Type 0
+StoriesExist = (text : List ℕ) (m : ModuleTree) (trace : List ℕ) (greatest : ℕ)
+    → IsAccepted false text m → (written : List (List ℕ)) × (end : End) × Story (resolved_vars m) (resolved_body m) trace greatest written end

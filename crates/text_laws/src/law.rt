@@ -2,7 +2,7 @@
 
 ghost use Rattle.text_laws.specs.Conflicts.{StoriesEndFlagged, StrictStepsHaveNoConflict, StrictStoriesHaveNoConflict, UntoldHasNoConflict};
 ghost use Rattle.text_laws.specs.Places.{DeclaredApart};
-ghost use Rattle.text_laws.specs.Stories.{StoriesAreOne};
+ghost use Rattle.text_laws.specs.Stories.{StoriesAreOne, StoriesExist};
 ghost use Rattle.text_laws.specs.Verdicts.{CellsHaveOneText, TextsHaveOneVerdict, WellTypedModulesAreSound};
 
 /// Whether loose pairs are refused or not, a text is refused by at most one rule at one place, or accepted as at most
@@ -27,6 +27,11 @@ pub fn variables_are_declared_apart()
 /// of a run are the only ones that the semantics gives.
 pub fn stories_are_one()
     ensures { StoriesAreOne }
+{}
+
+/// Over each trace an accepted text has a story, whatever the greatest number of steps is.
+pub fn stories_exist()
+    ensures { StoriesExist }
 {}
 
 /// A variable that is not told to be loose has no conflict in any step of any run, and a run over a trace that

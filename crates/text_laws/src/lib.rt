@@ -5,6 +5,6 @@
 mod law;
 
 pub use law::{
-    conflicts_are_of_loose_pairs, stories_are_one, texts_have_one_verdict,
+    conflicts_are_of_loose_pairs, stories_are_one, stories_exist, texts_have_one_verdict,
     variables_are_declared_apart, well_typed_modules_are_sound,
 };

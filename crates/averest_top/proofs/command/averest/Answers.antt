@@ -1,6 +1,7 @@
 use Rattle.outside.specs.Bytes.{Rose}
 use Rattle.averest_top.specs.declared.task.Task.TheVariants as task
 use Rattle.averest_top.proofs.PromiseLemmas.{accepted_does, accepted_else, refused_exactly, run_outcome}
+use Rattle.averest_top.proofs.CompleteLemmas.{has_told}
 use Rattle.averest_top.proofs.ConflictLemmas.{accepted_anyhow, conflict_flagged, never_conflict}
 use Rattle.averest_top.proofs.command.averest.Goals as goal
 
@@ -12,6 +13,11 @@ returns-clause-accepted g c = λ name text t m h. accepted_else text t _ _ _ _ _
 
 pub returns-clause-story : goal.returns-clause-story
 returns-clause-story g c = λ name text most m h tree trace a e. run_outcome text most _ _ _ _ _ _ _ c.obey-status.result (c.obey-status.ensures.of_text name text (task.Run most) m h) tree trace a e
+
+pub returns-clause-complete : goal.returns-clause-complete
+returns-clause-complete g c = λ name text most m h tree trace a e no_shelf no_input no_out written end s.
+    has_told text tree trace most _ _ _ _ _ _ c.obey-status.result a
+    (run_outcome text most _ _ _ _ _ _ _ c.obey-status.result (c.obey-status.ensures.of_text name text (task.Run most) m h) tree trace a e) no_shelf no_input no_out written end s
 
 pub returns-clause-size : goal.returns-clause-size
 returns-clause-size g c = λ name text strict m h tree a. accepted_does text (task.Check strict) (g.S.Source.left c.args.input.now) (g.S.Source.left c.obey-status.new.input) _ _ _ (Rose (g.S.Source.faults c.args.input.now) (g.S.Source.faults c.obey-status.new.input)) _ c.obey-status.result (c.obey-status.ensures.of_text name text (task.Check strict) m h) tree a
