@@ -1,5 +1,5 @@
 -- What the semantics tells of an accepted text over a trace, a run has told.
-use Rattle.std.proofs.Common.{◌≡◌, inl, inr, ℕ, false, List, Option, ap, subst, ◌∙◌}
+use Rattle.std.proofs.Common.{inl, inr, ℕ, false, List, Option, ap, subst, ◌∙◌}
 use Rattle.quartz_tree.specs.Surfaces.{ModuleTree}
 use Rattle.quartz_names.specs.Resolving.{resolved_body, resolved_vars}
 use Rattle.outside.specs.Bytes.{Gains}

@@ -1,12 +1,10 @@
 -- A module has no more elements of outputs than cells.
-use Rattle.std.proofs.Common.{◌≡◌, ◌≤◌, ◌<◌, ◌+◌, ℕ, zero, suc, List, [], ◌∷◌, ◌++◌, length, map, true, slice_get, slice_set, Some, refl, ap, arith, length-append}
+use Rattle.std.proofs.Common.{◌≡◌, ◌≤◌, ◌+◌, ℕ, List, [], ◌∷◌, ◌++◌, length, map, true, slice_set, arith, length-append}
 use Rattle.quartz_expr.specs.Vars.{Vars, count_of}
 use Rattle.quartz_expr.specs.Steps.{outputs_of}
 use Rattle.quartz_expr.specs.Terms.{Term}
 use Rattle.aif_cells.specs.declared.reference.Ref.TheVariants as ref
-use Rattle.aif_cells.specs.Built.{Defined}
 use Rattle.aif_cells.specs.Worth.{Assignment, listed}
-use Rattle.reincarnation.specs.Entering.{numbers_from}
 use Rattle.statement_cells.specs.Builder.{Builder, new_cells, one_ref, reserve, zero_ref}
 use Rattle.statement_cells.specs.Expressions.{Copies}
 use Rattle.statement_cells.specs.Meaning.{IsSoundModule}
@@ -15,7 +13,7 @@ use Rattle.statement_cells.specs.Whole.{Ended, beginning, begun, body_built, com
 use Rattle.statement_cells.proofs.EarlierWholeLemmas.{outputs_end}
 use Rattle.statement_cells.proofs.ScopeGrowLemmas.{reserve_longer}
 use Rattle.statement_cells.proofs.SurfaceGrowLemmas.{depth_grows, surface_grows}
-use Rattle.statement_cells.proofs.WholeLemmas.{Kept, compiled_kept}
+use Rattle.statement_cells.proofs.WholeLemmas.{compiled_kept}
 use Rattle.cell_run.proofs.ExecuteLemmas.{numbers_counted}
 use Rattle.macro_steps.proofs.CompleteLemmas.{kept_longer}
 

@@ -1,5 +1,5 @@
 -- What the tasks do with the parts of a module.
-use Rattle.std.proofs.Common.{◌≡◌, ◌≤◌, ◌<◌, ◌↔◌, ◌+◌, ℕ, suc, Bool, true, false, List, [], ◌∷◌, length, Contains, Option, Some, None, refl, sym, ap, ap₂, subst, ◌∙◌, arith}
+use Rattle.std.proofs.Common.{◌≡◌, ◌≤◌, ◌<◌, ◌↔◌, ◌+◌, ℕ, Bool, true, false, List, length, Contains, Option, Some, None, sym, ap, ap₂, subst, ◌∙◌, arith}
 use Rattle.std.specs.Prelude.{nat_lt}
 use Rattle.std.proofs.lemmas.Bool.Decides.{nat_tests}
 use Rattle.quartz_tree.specs.Surfaces.{ModuleTree}
@@ -9,10 +9,8 @@ use Rattle.quartz_expr.specs.Typed.{AreSound}
 use Rattle.quartz_names.specs.Resolving.{resolved_body, resolved_vars}
 use Rattle.outside.specs.declared.status.Status.{Status}
 use Rattle.aif_cells.specs.declared.aif.Aif.{Aif}
-use Rattle.aif_cells.specs.declared.cells.Cell.{Cell}
 use Rattle.aif_cells.specs.declared.cells.Action.{Action}
 use Rattle.aif_cells.specs.Aif.{input_count}
-use Rattle.aif_cells.specs.Built.{all_defined}
 use Rattle.aif_cells.specs.Text.{aif_text}
 use Rattle.statement_cells.specs.Whole.{Compiled}
 use Rattle.trace_io.specs.Inputs.{output_types}

@@ -145,7 +145,8 @@ pub fn averest<
         Outcome (resolved_vars m) (resolved_body m) trace most (O.stands out.old) (O.stands out.new) (S.left input.new)
         (Rose (F.faults shelf.old) (F.faults shelf.new)) (Rose (S.faults input.old) (S.faults input.new)) (Rose (O.faults out.old) (O.faults out.new)) result }
 
-    // Where no count rises it has told whatever story the semantics has of that text over that trace.
+    // With `run`, where the counts of the shelf, the input and the output don't rise, it has told whatever story the semantics has
+    // of the text over the trace, but for want of memory.
     ensures complete { (name text : List ℕ) (most : ℕ) → task_meant words.now ≡ Some (name, run_task most) → HasText (F.texts shelf.old) name text →
         (m : ModuleTree) (trace : List ℕ) → IsAccepted false text m → S.left input.old ≡ Some trace →
         ¬ (Rose (F.faults shelf.old) (F.faults shelf.new)) → ¬ (Rose (S.faults input.old) (S.faults input.new)) → ¬ (Rose (O.faults out.old) (O.faults out.new)) →

@@ -21,8 +21,7 @@ use Rattle.statement_cells.specs.Builder.{Builder, new_cells, reserve}
 use Rattle.statement_cells.specs.Expressions.{Copies}
 use Rattle.statement_cells.specs.Walk.{AllInRange}
 use Rattle.statement_cells.specs.Whole.{OutputCopy, beginning, begun, body_built, compiled, first_copies, nothing_built, output_cells}
-use Rattle.statement_cells.specs.Meaning.{HasInputs, IsMacroStep, IsSoundModule, StandsFor, initial_registers, next_registers, outputs_in}
-use Rattle.statement_cells.specs.Meaning as meaning
+use Rattle.statement_cells.specs.Meaning.{IsMacroStep, IsSoundModule, StandsFor, initial_registers, next_registers, outputs_in}
 use Rattle.statement_cells.proofs.BeginLemmas.{Current0, first_current}
 use Rattle.statement_cells.proofs.ScopeEnvLemmas.{ranges_first}
 use Rattle.statement_cells.proofs.StartLemmas.{initial_registers_stand}

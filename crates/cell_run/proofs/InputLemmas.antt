@@ -1,12 +1,8 @@
 -- The steps of a trace: each value lies in the range of its element's type.
-use Rattle.std.proofs.Common.{◌≡◌, ◌≤◌, ◌≤ℤ◌, ◌-ℤ◌, ◌-◌, ◌^◌, ℕ, zero, suc, ◌+◌, ℤ, pos, Bool, true, false, ◌&&◌, if◌then◌else◌, List, [], ◌∷◌, ◌++◌, length, replicate, Option, Some, None, option_map, option_and_then, slice_get, slice_set, refl, sym, ap, subst, ◌∙◌, arith, append_assoc}
-use Rattle.std.specs.Prelude.{neg_ℤ}
+use Rattle.std.proofs.Common.{◌≡◌, ℕ, zero, suc, ◌+◌, ℤ, pos, Bool, true, false, ◌&&◌, if◌then◌else◌, List, [], ◌∷◌, ◌++◌, length, replicate, Option, Some, None, option_map, option_and_then, slice_get, slice_set, refl, sym, ap, subst, ◌∙◌, append_assoc}
 use Rattle.std.specs.Str.{bytes_eq}
-use Rattle.std.proofs.lemmas.Bool.Decides.{nat_tests}
-use Rattle.std.proofs.lemmas.Int.{ints}
 use Rattle.std.proofs.lemmas.List.{length-append, length-replicate, length_push}
 use Rattle.quartz_tree.specs.declared.declare.Base.{Base}
-use Rattle.quartz_tree.specs.declared.declare.Base.TheVariants as base
 use Rattle.quartz_tree.specs.declared.declare.Flow.TheVariants.{Input}
 use Rattle.quartz_expr.specs.Vars.{Vars}
 use Rattle.quartz_expr.specs.Intervals.{base_interval, is_in, is_sound_base, is_sound_length, is_sound_type}

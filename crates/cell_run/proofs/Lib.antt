@@ -1,5 +1,4 @@
 pub mod CallLemmas
-pub mod FaultLemmas
 pub mod InputLemmas
 pub mod StoryLemmas
 pub mod TypedLemmas

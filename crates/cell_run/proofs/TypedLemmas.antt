@@ -1,7 +1,5 @@
 -- Values of inputs and outputs, one after another and by variable.
-use Rattle.std.proofs.Common.{◌≡◌, ◌≤◌, ◌≤ℤ◌, ◌+◌, ℕ, zero, suc, ℤ, Bool, true, false, ◌&&◌, int_le, if◌then◌else◌, List, [], ◌∷◌, ◌++◌, length, take, drop, replicate, Option, Some, None, unwrap_or, refl, sym, ap, ap₂, subst, ◌∙◌, arith, append_assoc}
-use Rattle.std.proofs.lemmas.Bool.Decides.{nat_tests}
-use Rattle.std.proofs.lemmas.Int.{ints}
+use Rattle.std.proofs.Common.{◌≡◌, ◌+◌, ℕ, zero, suc, ℤ, Bool, true, false, if◌then◌else◌, List, [], ◌∷◌, ◌++◌, length, take, drop, replicate, refl, sym, ap, ap₂, subst, ◌∙◌, arith, append_assoc}
 use Rattle.std.proofs.lemmas.List.{length_push}
 use Rattle.quartz_tree.specs.declared.declare.Base.{Base}
 use Rattle.quartz_tree.specs.declared.declare.Flow.{Flow}
@@ -9,7 +7,7 @@ use Rattle.quartz_tree.specs.declared.declare.Flow.TheVariants.{Input, Output, I
 use Rattle.quartz_tree.specs.declared.declare.Ty.{Ty}
 use Rattle.quartz_tree.specs.declared.declare.Var.{Var}
 use Rattle.quartz_expr.specs.Vars.{Vars, count_of}
-use Rattle.quartz_expr.specs.Intervals.{Interval, Lies, base_interval, is_in, is_sound_base, is_sound_length, is_sound_type, range_of, sound_or_nought, type_interval}
+use Rattle.quartz_expr.specs.Intervals.{Interval, base_interval, is_sound_type, range_of, sound_or_nought, type_interval}
 use Rattle.quartz_expr.specs.Typed.{AllLie, Fits, have_sound_types}
 use Rattle.quartz_expr.specs.Steps.{after_input, after_output, environment, first_list, if_output, outputs_from, rest_of, shown}
 use Rattle.statement_cells.specs.Meaning.{AreInputs, if_input, inputs_from}
@@ -17,10 +15,10 @@ use Rattle.statement_cells.specs.Meaning as meaning
 use Rattle.trace_io.specs.Inputs.{count_in, input_types, same_flow, scalars, types_with}
 use Rattle.trace_io.specs.Story.{by_input, elements}
 use Rattle.cell_run.specs.Machine.{AreOfTypes}
-use Rattle.quartz_expr.proofs.TruthLemmas.{and_parts, and_intro}
+use Rattle.quartz_expr.proofs.TruthLemmas.{and_parts}
 use Rattle.quartz_expr.proofs.RangeLemmas.{in_lies, lies_in}
 
--- ---- numbers in intervals
+-- ---- values of one type
 
 range_is : (t : Ty) → is_sound_type t ≡ true → type_interval t ≡ base_interval t.base
 range_is t h = ap (λ (b : Bool). sound_or_nought b (base_interval t.base)) h

@@ -1,35 +1,34 @@
 -- Without delayed actions of a variable no flag of it is set: at the start, and behind each step.
 use Rattle.std.proofs.Common.{◌≡◌, inl, inr, ℕ, zero, suc, ◌+◌, ◌≤◌, ◌<◌, ◌&&◌, ℤ, pos, Bool, true, false, List, [], ◌∷◌, ◌++◌, length, map, None, refl, sym, ap, ◌∙◌, subst, arith}
-use Rattle.std.specs.Prelude.{replicate, slice_get}
+use Rattle.std.specs.Prelude.{replicate}
 use Rattle.quartz_tree.specs.Kernel.{Kernel}
 use Rattle.quartz_tree.specs.declared.declare.Storage.{Storage}
 use Rattle.quartz_tree.specs.declared.declare.Storage.TheVariants.{Mem, Event}
 use Rattle.quartz_expr.specs.declared.act.Kept.{Kept}
 use Rattle.quartz_expr.specs.Vars.{Vars, count_of, start_of, storage_of}
-use Rattle.quartz_expr.specs.Terms.{Store, Term, term_of}
+use Rattle.quartz_expr.specs.Terms.{Term, term_of}
 use Rattle.quartz_expr.specs.Resolve.{fresh_store}
 use Rattle.quartz_expr.specs.Steps.{State, outputs_of}
 use Rattle.aif_cells.specs.declared.reference.Ref.TheVariants as ref
 use Rattle.aif_cells.specs.declared.cells.Register.{Register}
-use Rattle.aif_cells.specs.Worth.{Assignment, holds, read}
+use Rattle.aif_cells.specs.Worth.{Assignment, holds}
 use Rattle.absence_reaction.specs.declared.copy.Shape.{Shape}
-use Rattle.absence_reaction.specs.Closing.{flag_of, is_memorized, one_if, pending_of}
+use Rattle.absence_reaction.specs.Closing.{flag_of, pending_of}
 use Rattle.reincarnation.specs.Carrying.{Stores}
 use Rattle.statement_cells.specs.Labels.{is_delayed, labels, registers, shape_in}
 use Rattle.statement_cells.specs.Builder.{Builder, DepthCopy, one_ref, zero_ref}
 use Rattle.statement_cells.specs.Stands.{Registers, kept_from, plain_kept, some_if}
 use Rattle.statement_cells.specs.Surface.{surface}
-use Rattle.statement_cells.specs.Whole.{Ended, beginning, body_built, compiled, element_registers, ended, first_copies, first_label, first_output, first_registers, first_scope, labels_taken, nothing_built, output_registers, outputs_registers, outputs_taken, register_of, registers_and_cells, repeated, scopes_taken, variable_registers}
+use Rattle.statement_cells.specs.Whole.{Ended, beginning, body_built, compiled, ended, first_copies, first_label, first_output, first_registers, first_scope, labels_taken, nothing_built, output_registers, outputs_taken, registers_and_cells, scopes_taken, variable_registers}
 use Rattle.statement_cells.specs.Meaning.{IsSoundModule, IsStep, StandsFor, initial_registers, next_of, next_registers, plain_stores, stores_of}
 use Rattle.statement_cells.proofs.CarryLemmas.{outputs_others}
 use Rattle.statement_cells.proofs.DepthLemmas.{depth_grown}
 use Rattle.statement_cells.proofs.EndLemmas.{AllEnd}
 use Rattle.statement_cells.proofs.LabelLemmas.{labels_others}
-use Rattle.statement_cells.proofs.NextLemmas.{begun_entered, count_registers, ended_only, length_outputs, outputs_less, solves_behind, the_end}
+use Rattle.statement_cells.proofs.NextLemmas.{begun_entered, count_registers, ended_only, outputs_less, solves_behind, the_end}
 use Rattle.statement_cells.proofs.PlacedLemmas.{AllAt, At, surface_placed}
 use Rattle.statement_cells.proofs.ScopeBelowLemmas.{scopes_below}
 use Rattle.statement_cells.proofs.ScopeEnvLemmas.{length_map}
-use Rattle.statement_cells.proofs.ScopeGrowLemmas.{length_replicate}
 use Rattle.statement_cells.proofs.ScopeHoldLemmas.{AllD, depths_in, inside}
 use Rattle.statement_cells.proofs.StartLemmas.{compiled_starts, initial_registers_stand, outputs_start, same_starts}
 use Rattle.statement_cells.proofs.WholeLemmas.{labels_only}

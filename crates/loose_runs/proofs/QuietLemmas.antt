@@ -1,8 +1,7 @@
 -- Without delayed actions of a variable no flag of it is ever set: behind each copy that is carried.
-use Rattle.std.proofs.Common.{◌≡◌, ◌⊎◌, inl, inr, ℕ, zero, suc, ◌+◌, ◌*◌, ◌≤◌, ◌<◌, ◌==◌, ℤ, Bool, true, false, List, [], ◌∷◌, length, map, Option, Some, None, refl, sym, ap, ap₂, ◌∙◌, subst, arith}
+use Rattle.std.proofs.Common.{◌≡◌, ◌⊎◌, inl, inr, ℕ, zero, suc, ◌+◌, ◌≤◌, ◌<◌, ◌==◌, ℤ, Bool, true, false, List, [], ◌∷◌, length, map, Option, Some, None, refl, sym, ap, ap₂, ◌∙◌, subst, arith}
 use Rattle.std.specs.Prelude.{slice_get, if◌then◌else◌}
 use Rattle.std.proofs.lemmas.Bool.Decides.{nat_tests}
-use Rattle.std.proofs.Math.Nat.{mul-le-mul_right}
 use Rattle.quartz_tree.specs.declared.declare.Var.{Var}
 use Rattle.quartz_expr.specs.declared.act.Act.{Act}
 use Rattle.quartz_expr.specs.Vars.{Vars, count_of}
@@ -10,7 +9,7 @@ use Rattle.quartz_expr.specs.Terms.{Term, nothing, pause, write, choose, seq, pa
 use Rattle.aif_cells.specs.Solution.{IsSolution}
 use Rattle.aif_cells.specs.Worth.{Assignment, holds, read, truth}
 use Rattle.absence_reaction.specs.declared.copy.Shape.{Shape}
-use Rattle.absence_reaction.specs.Closing.{flag_of, is_memorized, one_if, pending_of, register_of, registers_each}
+use Rattle.absence_reaction.specs.Closing.{flag_of, is_memorized, pending_of, register_of}
 use Rattle.reincarnation.specs.declared.copy.ClosedRefs.{ClosedRefs}
 use Rattle.reincarnation.specs.Carrying.{Stores}
 use Rattle.reincarnation.specs.Meaning.{carried_copy}

@@ -1,5 +1,5 @@
 -- The conflicts of the steps to which runs come.
-use Rattle.std.proofs.Common.{◌≡◌, ℕ, zero, suc, ℤ, pos, List, [], ◌∷◌, length, Contains, Some, refl, ◌∙◌, subst, arith}
+use Rattle.std.proofs.Common.{◌≡◌, ℕ, ℤ, pos, List, [], length, Contains, Some, refl, ◌∙◌, subst, arith}
 use Rattle.std.specs.Prelude.{Option}
 use Rattle.quartz_tree.specs.declared.fault.Fault.{Fault}
 use Rattle.quartz_tree.specs.declared.fault.Kind.TheVariants.{Conflict}
@@ -36,8 +36,6 @@ use Rattle.loose_runs.proofs.EndAddLemmas.{all_sited, final}
 use Rattle.loose_runs.proofs.LooseLemmas.{QuietRegisters, flagged}
 use Rattle.loose_runs.proofs.NextQuietLemmas.{depths_here, initial_quiet, next_quiet}
 use Rattle.macro_steps.proofs.RunLemmas.{next_listed, initial_listed}
-
--- ---- registers as lists
 
 -- ---- the states that are reached
 

@@ -14,7 +14,7 @@ use Rattle.aif_cells.specs.declared.aif.Aif.{Aif}
 use Rattle.aif_cells.specs.declared.cells.Action.{Action}
 use Rattle.causality_check.specs.Order.{HasNoCycle}
 use Rattle.statement_cells.specs.Meaning.{IsSoundModule}
-use Rattle.statement_cells.specs.Whole.{Compiled, compiled}
+use Rattle.statement_cells.specs.Whole.{compiled}
 use Rattle.trace_io.specs.Inputs.{input_types}
 use Rattle.trace_io.specs.Lines.{lines}
 use Rattle.trace_io.specs.Reading.{steps}
@@ -22,20 +22,18 @@ use Rattle.trace_io.specs.Story.{End, fault, StoryFrom, by_input, is_bad, is_don
 use Rattle.cell_run.proofs.InputLemmas.{AreStepsOf, have_zero, steps_are}
 use Rattle.cell_run.proofs.TypedLemmas.{inputs_are}
 use Rattle.write_conflicts.specs.Loose.{IsLooseVar, Scene}
-use Rattle.write_conflicts.specs.Pairs.{ArePairsOf, scene}
+use Rattle.write_conflicts.specs.Pairs.{ArePairsOf}
 use Rattle.write_conflicts.specs.declared.pairs.Pairs.{Pairs}
 use Rattle.loose_runs.specs.Laws.{FlaggedAt, IsFlagged}
 use Rattle.loose_runs.specs.Reached.{Reached, at_start, by_step}
 use Rattle.loose_runs.proofs.FaultLemmas.{least_in}
 use Rattle.loose_runs.proofs.RunLooseLemmas.{loose_meets_conflict, unflagged_variable_has_no_conflict}
-use Rattle.quartz_build.specs.Broken.{IsAccepted, compiled_of, scene_in, term_in}
+use Rattle.quartz_build.specs.Broken.{IsAccepted, term_in}
 use Rattle.quartz_build.specs.Parts.{IsAifOf}
 use Rattle.text_laws.specs.Conflicts.{StoriesEndFlagged, StrictStepsHaveNoConflict, StrictStoriesHaveNoConflict, UntoldHasNoConflict}
 use Rattle.text_laws.proofs.PlaceLemmas.{declared_apart}
 use Rattle.text_laws.proofs.VerdictLemmas.{well_typed_is_sound}
 use Rattle.quartz_build.proofs.BuildLemmas.{same_scene, same_actions}
-
--- ---- the cells of a module
 
 -- ---- variables that aren't told to be loose
 
