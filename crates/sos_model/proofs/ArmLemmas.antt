@@ -1,18 +1,17 @@
 -- What a form finds, by what its parts find.
-use Rattle.std.proofs.Common.{◌≡◌, ◌<◌, ◌≤◌, ◌+◌, ℕ, ℤ, Bool, true, false, not, ◌&&◌, nat_le, nat_lt, List, [], length, take, drop, Option, Some, None, option_map, slice_set, if◌then◌else◌, refl, sym, ap, ◌∙◌, subst, arith, length-drop}
+use Rattle.std.proofs.Common.{◌≡◌, ◌<◌, ◌≤◌, ◌+◌, ℕ, ℤ, Bool, true, false, not, nat_le, nat_lt, List, length, take, drop, Option, Some, None, option_map, slice_set, if◌then◌else◌, refl, sym, ap, ◌∙◌, subst, arith, length-drop}
 use Rattle.std.proofs.lemmas.Bool.Decides.{nat_tests}
 use Rattle.std.proofs.lemmas.List.{length-map, length-take-le}
 use Rattle.quartz_tree.specs.declared.place.Place.{Place}
 use Rattle.quartz_tree.specs.Tree.{Tree}
 use Rattle.quartz_expr.specs.Values.{Values, is_zero}
-use Rattle.quartz_expr.specs.Vars.{Vars, count_of}
+use Rattle.quartz_expr.specs.Vars.{Vars}
 use Rattle.quartz_expr.specs.Value.{value}
 use Rattle.quartz_expr.specs.Faults.{faults}
-use Rattle.quartz_expr.specs.Intervals.{range_of}
-use Rattle.quartz_expr.specs.Typed.{AreSound, Fits, IsTyped}
-use Rattle.quartz_expr.specs.Terms.{Store, Term, nothing, pause, write, choose, seq, par, loop, abort, suspend, scope, guard_of, is_instant}
+use Rattle.quartz_expr.specs.Typed.{Fits, IsTyped}
+use Rattle.quartz_expr.specs.Terms.{Store, Term, write, choose, loop, scope, guard_of, is_instant}
 use Rattle.quartz_expr.specs.Tick.{tick}
-use Rattle.quartz_expr.specs.React.{Reaction, store_of}
+use Rattle.quartz_expr.specs.React.{Reaction}
 use Rattle.sos_model.specs.declared.found.Found.{Found}
 use Rattle.sos_model.specs.Found.{Finds, reaction_of}
 use Rattle.sos_model.specs.Sound.{IsTypedIndex, fits_store, is_sound, is_typed, is_typed_index}

@@ -1,16 +1,14 @@
 -- Environments in which a scope's variable has other values.
-use Rattle.std.proofs.Common.{◌≡◌, ◌≢◌, ◌<◌, ◌≤◌, ℕ, zero, suc, ℤ, int_le, ◌≤ℤ◌, Bool, true, false, ◌&&◌, nat_le, nat_lt, nat_eq, List, [], ◌∷◌, length, get_or, set, Option, Some, None, unwrap_or, slice_get, slice_set, refl, sym, ap, ◌∙◌, subst, arith}
-use Rattle.std.proofs.lemmas.Int.{ints}
+use Rattle.std.proofs.Common.{◌≡◌, ◌≢◌, ◌<◌, ◌≤◌, ℕ, ℤ, Bool, true, false, nat_lt, nat_eq, List, [], ◌∷◌, length, get_or, Option, unwrap_or, slice_set, refl, sym, ap, ◌∙◌, subst, arith}
 use Rattle.std.proofs.lemmas.Bool.Decides.{nat_tests}
 use Rattle.std.proofs.lemmas.List.{get_or-set_same, get_or-set_other, length-set, set-set, set-get_or}
 use Rattle.std.proofs.lemmas.Option.{slice_get_past, unwrap_or-slice_get}
 use Rattle.quartz_expr.specs.Values.{Values, elements_in}
 use Rattle.quartz_expr.specs.Vars.{Vars, count_of}
-use Rattle.quartz_expr.specs.Intervals.{Interval, Lies, is_in, is_sound_base, is_sound_length, is_sound_type, range_of}
-use Rattle.quartz_expr.specs.Typed.{AllLie, AreSound, Fits, have_sound_types}
+use Rattle.quartz_expr.specs.Intervals.{Interval, range_of}
+use Rattle.quartz_expr.specs.Typed.{AllLie, AreSound, Fits}
 use Rattle.sos_model.proofs.RangeLemmas.{AllIn}
-use Rattle.quartz_expr.proofs.TruthLemmas.{and_parts}
-use Rattle.quartz_expr.proofs.RangeLemmas.{in_lies, some_length, some_element}
+use Rattle.quartz_expr.proofs.RangeLemmas.{in_lies, some_element}
 
 -- ---- a variable that fits has a place in the environment
 

@@ -1,9 +1,7 @@
 -- One part more of a sequence or of a parallel.
-use Rattle.std.proofs.Common.{◌≡◌, ◌≢◌, ℕ, Bool, true, false, ◌&&◌, List, [], ◌∷◌, ◌++◌, length, map, Option, Some, None, option_map, refl, sym, ap, ap₂, ◌∙◌, append_assoc, append-nil, Vec, Global}
-use Rattle.quartz_tree.specs.declared.fault.Fault.{Fault}
-use Rattle.quartz_expr.specs.declared.act.Act.{Act}
+use Rattle.std.proofs.Common.{◌≡◌, ◌≢◌, Bool, true, false, ◌&&◌, List, [], ◌∷◌, ◌++◌, map, Option, Some, option_map, refl, sym, ap, ap₂, ◌∙◌, append_assoc, append-nil}
 use Rattle.quartz_expr.specs.Terms.{Term, seq, par, Terms, none, part}
-use Rattle.quartz_expr.specs.React.{Met, Reaction, Reactions, sequence, goes_on, beside, together, unless_ended}
+use Rattle.quartz_expr.specs.React.{Reaction, Reactions, sequence, goes_on, beside, together, unless_ended}
 use Rattle.sos_model.specs.declared.form.Form.{Form}
 use Rattle.sos_model.specs.declared.found.Found.{Found}
 use Rattle.sos_model.specs.declared.passed.Passed.{Passed}

@@ -1,26 +1,22 @@
 -- What lies in a variable's range: 0, what is read of given values, what acts write, and what stores keep and resolve to.
-use Rattle.std.proofs.Common.{◌≡◌, ◌⊎◌, inl, inr, ℕ, zero, suc, ◌+◌, ◌==◌, ℤ, pos, negsuc, int_le, Bool, true, false, not, ◌&&◌, nat_le, List, [], ◌∷◌, ◌++◌, map, length, Option, Some, None, if◌then◌else◌, unwrap_or, option_map, replicate, rules, refl, sym, ap, ap₂, ◌∙◌, subst, arith}
-use Rattle.std.proofs.lemmas.Int.{ints}
+use Rattle.std.proofs.Common.{◌≡◌, ℕ, zero, suc, ◌+◌, ◌==◌, ℤ, pos, Bool, true, false, List, [], ◌∷◌, ◌++◌, map, length, Option, Some, None, if◌then◌else◌, unwrap_or, option_map, replicate, refl, ap, ap₂, ◌∙◌, subst, arith}
 use Rattle.std.proofs.lemmas.List.{length-map}
 use Rattle.std.proofs.lemmas.Bool.Decides.{nat_tests}
-use Rattle.quartz_tree.specs.declared.declare.Base.{Base}
-use Rattle.quartz_tree.specs.declared.declare.Base.TheVariants as base
-use Rattle.quartz_tree.specs.declared.declare.Ty.{Ty}
 use Rattle.quartz_tree.specs.declared.declare.Storage.{Storage}
 use Rattle.quartz_tree.specs.declared.declare.Storage.TheVariants.{Mem, Event}
 use Rattle.quartz_expr.specs.declared.act.Act.{Act}
 use Rattle.quartz_expr.specs.declared.act.Kept.{Kept}
 use Rattle.quartz_expr.specs.Vars.{Vars, count_of, start_of, storage_of}
-use Rattle.quartz_expr.specs.Intervals.{Interval, base_interval, is_in, is_sound_base, is_sound_length, is_sound_type, range_of, sound_or_nought, type_interval}
+use Rattle.quartz_expr.specs.Intervals.{Interval, is_in, range_of}
 use Rattle.quartz_expr.specs.Terms.{Store}
 use Rattle.quartz_expr.specs.Writes.{in_range}
-use Rattle.quartz_expr.specs.Resolve.{absence, absent, first_of_all, fresh_store, given_store, is_write_of, kept, others, resolved, resolved_store, values_of, writes_of}
+use Rattle.quartz_expr.specs.Resolve.{absence, absent, first_of_all, given_store, is_write_of, kept, others, resolved, resolved_store, values_of, writes_of}
 use Rattle.quartz_expr.specs.Tick.{advanced}
 use Rattle.quartz_expr.specs.React.{store_of}
 use Rattle.sos_model.specs.Sound.{fits_store, lie_kept, lies_kept}
 use Rattle.sos_model.specs.Walk.{read_as}
 use Rattle.quartz_expr.proofs.TruthLemmas.{and_parts, and_intro}
-use Rattle.quartz_expr.proofs.RangeLemmas.{zero_in_base, zero_in_type}
+use Rattle.quartz_expr.proofs.RangeLemmas.{zero_in_type}
 
 -- ---- 0
 

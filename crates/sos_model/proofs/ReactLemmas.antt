@@ -1,10 +1,9 @@
 -- The walk finds the reactions of the relation, and all of them.
-use Rattle.std.proofs.Common.{◌≡◌, ◌⊎◌, inl, inr, ◌≤◌, ◌+◌, ◌==◌, ℕ, zero, suc, ℤ, pos, Bool, true, false, not, ◌&&◌, ◌||◌, nat_le, nat_lt, List, [], ◌∷◌, ◌++◌, length, take, drop, map, Option, Some, None, option_map, slice_set, if◌then◌else◌, refl, sym, ap, ap₂, ◌∙◌, subst, arith, length-append, append_assoc}
+use Rattle.std.proofs.Common.{◌≡◌, ◌≤◌, ◌+◌, ℕ, suc, ℤ, pos, Bool, true, false, not, nat_le, nat_lt, List, [], ◌∷◌, ◌++◌, length, take, drop, map, Option, Some, None, option_map, slice_set, if◌then◌else◌, refl, sym, ap, ap₂, ◌∙◌, subst, arith, length-append}
 use Rattle.std.proofs.lemmas.Bool.Decides.{nat_tests}
 use Rattle.std.proofs.lemmas.List.{take-append-drop, length-take-le}
 use Rattle.std.proofs.Math.Seq.{take-append_seam, drop-append_seam}
 use Rattle.std.specs.Option.{option_and_then}
-use Rattle.quartz_tree.specs.declared.fault.Fault.{Fault}
 use Rattle.quartz_tree.specs.Tree.{Tree}
 use Rattle.quartz_expr.specs.declared.act.Act.{Act}
 use Rattle.quartz_expr.specs.Values.{Values, is_zero}
@@ -13,22 +12,19 @@ use Rattle.quartz_expr.specs.Value.{value}
 use Rattle.quartz_expr.specs.Faults.{faults, is_index_below}
 use Rattle.quartz_expr.specs.Intervals.{range_of, is_in}
 use Rattle.quartz_expr.specs.Writes.{act_if, in_range, target_index, write_acts, write_faults}
-use Rattle.quartz_expr.specs.Terms.{Store, Term, nothing, pause, write, choose, seq, par, loop, abort, suspend, scope, Terms, none, part, is_instant, are_instant}
-use Rattle.quartz_expr.specs.Resolve.{given_store, resolved_store, values_of}
+use Rattle.quartz_expr.specs.Terms.{Store, Term, nothing, pause, write, choose, seq, par, loop, abort, suspend, scope, Terms, none, part, is_instant}
+use Rattle.quartz_expr.specs.Resolve.{resolved_store, values_of}
 use Rattle.quartz_expr.specs.Tick.{tick}
-use Rattle.quartz_expr.specs.React.{Met, Reaction, Reactions, sequence, unless_ended, ends, rests, after_faults, formed, stays, goes_on, beside, together, store_of, meetings, held_scope, scoped, React, ReactEach, AllResolved, of_nothing, of_pause, of_write, of_yes, of_no, of_none, of_turn, of_stop, of_par, of_loop, of_delayed_abort, of_delayed_suspend, of_spared_abort, of_spared_suspend, of_strong_abort, of_weak_abort, of_strong_suspend, of_weak_suspend, of_scope, of_nobody, of_beside, givens}
+use Rattle.quartz_expr.specs.React.{Met, Reaction, Reactions, ends, rests, goes_on, beside, store_of, meetings, scoped, React, ReactEach, AllResolved, of_nothing, of_pause, of_write, of_yes, of_no, of_none, of_turn, of_stop, of_par, of_loop, of_delayed_abort, of_delayed_suspend, of_spared_abort, of_spared_suspend, of_strong_abort, of_weak_abort, of_strong_suspend, of_weak_suspend, of_scope, of_nobody, of_beside, givens}
 use Rattle.quartz_expr.proofs.LawLemmas.{stays_on, givens_append, givens_meetings}
 use Rattle.sos_model.specs.Sound.{is_sound, are_sound, is_typed, fits_store}
-use Rattle.sos_model.specs.Walk.{Walk, Walks, again, before_walks, chosen, delayed_guard, entered, found, guard_on, guarded, looped, on_reaction, read_as, spared_guard, stopped, stops_body, strong_guard, taken_by, tested_guard, together_walk, turned, walk, walk_all, walk_each, weak_guard}
+use Rattle.sos_model.specs.Walk.{Walk, Walks, again, before_walks, chosen, delayed_guard, entered, found, guard_on, looped, on_reaction, read_as, spared_guard, stopped, stops_body, strong_guard, taken_by, tested_guard, together_walk, turned, walk, walk_all, walk_each, weak_guard}
 use Rattle.sos_model.proofs.RangeLemmas.{AllIn, ActsLie, acts_append, acts_others, read_lies, resolved_length, store_lies, wanted_lie}
-use Rattle.sos_model.proofs.SoundLemmas.{tick_stays}
 use Rattle.sos_model.specs.Read.{all_as_read, as_read, read_met}
 use Rattle.quartz_expr.proofs.TruthLemmas.{and_parts, and_intro}
 
 abbrev found_each : List ℤ → Reactions → Option Walks
 found_each xs q = Some (record { reactions = q; rest = xs })
-
--- ---- lists
 
 -- ---- what is read of given values
 

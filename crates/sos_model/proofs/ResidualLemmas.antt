@@ -1,10 +1,8 @@
 -- What is left of a term that can react, and what it is held by, can react too.
-use Rattle.std.proofs.Common.{◌≡◌, ℕ, ℤ, Bool, true, false, not, ◌&&◌, nat_lt, List, [], ◌∷◌, ◌++◌, length, Option, Some, None, slice_set, refl, ap, ◌∙◌, arith}
-use Rattle.quartz_tree.specs.Tree.{Tree}
-use Rattle.quartz_expr.specs.declared.act.Act.{Act}
+use Rattle.std.proofs.Common.{◌≡◌, ℕ, ℤ, Bool, true, false, not, nat_lt, List, [], ◌∷◌, ◌++◌, length, Option, Some, None, slice_set, refl, ap, ◌∙◌, arith}
 use Rattle.quartz_expr.specs.Values.{Values}
 use Rattle.quartz_expr.specs.Vars.{Vars}
-use Rattle.quartz_expr.specs.Terms.{Store, Term, nothing, seq, loop, scope, Terms, none, part, is_instant}
+use Rattle.quartz_expr.specs.Terms.{Store, Term, seq, scope, Terms, none, part, is_instant}
 use Rattle.quartz_expr.specs.Intervals.{is_in, range_of}
 use Rattle.quartz_expr.specs.Resolve.{given_store}
 use Rattle.quartz_expr.specs.Tick.{tick}

@@ -1,5 +1,5 @@
 -- What two writes differ by.
-use Rattle.std.proofs.Common.{◌<◌, ◌+◌, ℕ, ◌++◌, length, drop, get_or, append_assoc, ◌≡◌, ℤ, Bool, true, false, not, ◌||◌, List, [], ◌∷◌, Option, Some, None, refl, sym, ap, ◌∙◌}
+use Rattle.std.proofs.Common.{◌<◌, ◌+◌, ℕ, ◌++◌, length, drop, get_or, append_assoc, ◌≡◌, ℤ, Bool, true, false, not, ◌||◌, List, [], ◌∷◌, Some, None, refl, sym, ap, ◌∙◌}
 use Rattle.quartz_expr.specs.Values.{same_value}
 use Rattle.std.proofs.lemmas.List.{drop_more}
 use Rattle.quartz_tree.specs.declared.place.Place.{Place}

@@ -1,11 +1,8 @@
 -- What advances stays able to react.
-use Rattle.std.proofs.Common.{◌≡◌, Bool, true, false, not, ◌&&◌, ◌||◌, ◌==◌, nat_lt, List, [], ◌∷◌, map, length, Option, Some, None, option_map, refl, sym, ap, ap₂, ◌∙◌, ℕ}
-use Rattle.std.proofs.lemmas.List.{length-map}
-use Rattle.quartz_tree.specs.Tree.{Tree}
-use Rattle.quartz_expr.specs.Vars.{Vars, count_of, storage_of}
-use Rattle.quartz_expr.specs.Resolve.{absent}
-use Rattle.quartz_expr.specs.Terms.{Store, Term, nothing, pause, write, choose, seq, par, loop, abort, suspend, scope, Terms, none, part, is_instant, are_instant}
-use Rattle.quartz_expr.specs.Tick.{advanced, tick, tick_all}
+use Rattle.std.proofs.Common.{◌≡◌, true, false, not, ◌&&◌, ◌||◌, nat_lt, length, refl, ap, ap₂, ◌∙◌}
+use Rattle.quartz_expr.specs.Vars.{Vars}
+use Rattle.quartz_expr.specs.Terms.{Term, nothing, pause, write, choose, seq, par, loop, abort, suspend, scope, Terms, none, part, is_instant, are_instant}
+use Rattle.quartz_expr.specs.Tick.{tick, tick_all}
 use Rattle.sos_model.specs.Sound.{is_sound, are_sound, is_typed, fits_store}
 use Rattle.sos_model.proofs.RangeLemmas.{advanced_fits}
 use Rattle.quartz_expr.proofs.TruthLemmas.{and_parts, and_intro}

@@ -1,5 +1,5 @@
 -- The parts of a typed expression are typed.
-use Rattle.std.proofs.Common.{◌≡◌, ℕ, Bool, true, false, ◌&&◌, nat_lt, List, [], ◌∷◌, ◌++◌, length, Option, refl}
+use Rattle.std.proofs.Common.{◌≡◌, ℕ, true, nat_lt, List, [], ◌∷◌, ◌++◌, length, Option, refl}
 use Rattle.quartz_tree.specs.declared.place.Place.{Place}
 use Rattle.quartz_tree.specs.declared.expr.Unary.{Unary}
 use Rattle.quartz_tree.specs.declared.expr.Binary.{Binary}

@@ -1,5 +1,5 @@
 -- The term of each form that has parts or expressions.
-use Rattle.std.proofs.Common.{◌≡◌, ℕ, Bool, Option, Vec, Box, Global, option_map, refl, sym, ap, ap₂, ◌∙◌, subst, ◌<◌, ◌≤◌, List, length, get_or, rules}
+use Rattle.std.proofs.Common.{◌≡◌, ℕ, Bool, Option, Vec, Box, Global, option_map, sym, ap, ap₂, ◌∙◌, subst, ◌<◌, ◌≤◌, List, length, get_or, rules}
 use denote.Param.Weighed.{most, at_most}
 use Rattle.quartz_tree.specs.declared.expr.Expr.{Expr}
 use Rattle.quartz_tree.specs.declared.place.Place.{Place}

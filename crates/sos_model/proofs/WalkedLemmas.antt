@@ -12,7 +12,7 @@ use Rattle.sos_model.specs.declared.fault.WalkFault.{WalkFault}
 use Rattle.sos_model.specs.declared.fault.WalkFault.TheVariants.{Missing, NoMemory}
 use Rattle.sos_model.specs.declared.found.Found.{Found}
 use Rattle.sos_model.specs.Found.{Finds, Walked, reaction_of}
-use Rattle.sos_model.specs.Walk.{entered, read_as, taken_by, walk}
+use Rattle.sos_model.specs.Walk.{entered, read_as, walk}
 use Rattle.sos_model.proofs.ArmLemmas.{finds_scope, fits_scope, lacks_scope}
 use Rattle.sos_model.proofs.EnvLemmas.{length_set, set_back}
 use Rattle.sos_model.proofs.RangeLemmas.{store_length}

@@ -1,12 +1,10 @@
 -- Arrays have few elements.
-use Rattle.std.proofs.Common.{◌≡◌, ◌<◌, ◌≤◌, ◌^◌, ℕ, zero, suc, ℤ, pos, negsuc, Bool, true, false, ◌&&◌, nat_lt, nat_le, List, [], ◌∷◌, Option, Some, None, unwrap_or, unsigned_abs, arith}
+use Rattle.std.proofs.Common.{◌≡◌, ◌<◌, ◌≤◌, ◌^◌, ℕ, ℤ, pos, negsuc, true, unsigned_abs, arith}
 use Rattle.std.proofs.lemmas.Bool.Decides.{nat_tests}
 use Rattle.quartz_expr.specs.Vars.{Vars, count_of}
-use Rattle.quartz_expr.specs.Intervals.{is_sound_base, is_sound_length, is_sound_type}
 use Rattle.quartz_expr.specs.Faults.{is_index_below}
-use Rattle.quartz_expr.specs.Typed.{have_sound_types, AreSound}
-use Rattle.quartz_expr.proofs.TruthLemmas.{and_parts}
-use Rattle.quartz_expr.proofs.RangeLemmas.{small_length, count_small}
+use Rattle.quartz_expr.specs.Typed.{AreSound}
+use Rattle.quartz_expr.proofs.RangeLemmas.{count_small}
 
 pub few_elements : (vs : Vars) (x : ℕ) → AreSound vs → count_of vs x ≤ 64
 few_elements vs x h = count_small vs x h.types

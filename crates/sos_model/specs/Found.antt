@@ -1,5 +1,5 @@
 -- What the code of a walk has found.
-use Rattle.std.specs.Prelude.{◌≡◌, ◌≤◌, ℕ, ℤ, List, length, drop, map, Option, None, Some, option_map}
+use Rattle.std.specs.Prelude.{◌≡◌, ◌≤◌, ℤ, List, length, drop, map, Option, None, Some, option_map}
 use Rattle.std.specs.Prelude.{Result, Ok, Err}
 use Rattle.quartz_expr.specs.Values.{Values}
 use Rattle.quartz_expr.specs.Vars.{Vars}

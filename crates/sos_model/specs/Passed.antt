@@ -1,9 +1,7 @@
 -- What was passed of a sequence, or of a parallel, before the parts that are left.
-use Rattle.std.specs.Prelude.{ℕ, Bool, ◌&&◌, List, [], ◌∷◌, ◌++◌, map, Option, Some, None, option_map}
-use Rattle.quartz_tree.specs.declared.fault.Fault.{Fault}
-use Rattle.quartz_expr.specs.declared.act.Act.{Act}
+use Rattle.std.specs.Prelude.{◌&&◌, List, [], ◌∷◌, ◌++◌, map, option_map}
 use Rattle.quartz_expr.specs.Terms.{Term, Terms, part}
-use Rattle.quartz_expr.specs.React.{Met, Reaction, Reactions}
+use Rattle.quartz_expr.specs.React.{Reaction, Reactions}
 use Rattle.sos_model.specs.declared.passed.Passed.{Passed}
 use Rattle.sos_model.specs.declared.passed.Beside.{Beside}
 use Rattle.sos_model.specs.FormTerms.{term}

@@ -1,5 +1,5 @@
 -- A walk through a term with a list of values for the scopes: the reaction that it finds, unless the list is too short.
-use Rattle.std.specs.Prelude.{ℕ, not, ◌&&◌, ℤ, Bool, true, false, nat_le, List, [], ◌∷◌, ◌++◌, length, take, drop, map, Option, Some, None, option_map, slice_set, if◌then◌else◌}
+use Rattle.std.specs.Prelude.{ℕ, not, ◌&&◌, ℤ, Bool, true, false, nat_le, List, [], ◌++◌, length, take, drop, map, Option, Some, None, option_map, slice_set, if◌then◌else◌}
 use Rattle.std.specs.Option.{option_and_then}
 use Rattle.quartz_tree.specs.declared.fault.Fault.{Fault}
 use Rattle.quartz_tree.specs.Tree.{Tree}

@@ -1,12 +1,10 @@
 //! Writes: the act and the faults of one.
 
-ghost use Rattle.std.specs.Prelude.{◌≡◌, ◌++◌, ◌∷◌, [], true, ℤ, List, IfOk, map, option_map, option_to_list};
+ghost use Rattle.std.specs.Prelude.{◌≡◌, ◌++◌, IfOk, option_map, option_to_list};
 ghost use Rattle.quartz_tree.specs.Tree.{tree};
-ghost use Rattle.quartz_expr.specs.Faults.{is_index_below};
-ghost use Rattle.quartz_expr.specs.Intervals.{Lies, is_in, range_of};
-ghost use Rattle.quartz_expr.specs.Typed.{AreSound, Fits, IsTyped, AllLie};
-ghost use Rattle.quartz_expr.specs.Vars.{count_of};
-ghost use Rattle.quartz_expr.specs.Writes.{act_if, in_range, target_faults, target_index, write_acts, write_faults};
+ghost use Rattle.quartz_expr.specs.Intervals.{is_in, range_of};
+ghost use Rattle.quartz_expr.specs.Typed.{AreSound, Fits, IsTyped};
+ghost use Rattle.quartz_expr.specs.Writes.{in_range, target_faults, target_index, write_acts, write_faults};
 ghost use Rattle.sos_model.specs.Sound.{IsTypedIndex};
 
 use crate::faulting::{add_fault, add_faults, add_index_fault, names_element};

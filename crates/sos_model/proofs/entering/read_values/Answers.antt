@@ -1,5 +1,4 @@
-use Rattle.std.proofs.Common.{◌≡◌, ◌<◌, ◌+◌, ℕ, zero, suc, ℤ, List, [], ◌∷◌, ◌++◌, length, get_or, map, take, sym, ap, ap₂, ◌∙◌, arith, rules}
-use Rattle.quartz_expr.specs.Vars.{Vars}
+use Rattle.std.proofs.Common.{◌≡◌, ◌<◌, ◌+◌, ℕ, zero, suc, ℤ, List, [], ◌∷◌, ◌++◌, length, get_or, map, take, ap, ap₂, ◌∙◌, arith, rules}
 use Rattle.quartz_expr.specs.Writes.{in_range}
 use Rattle.sos_model.proofs.entering.read_values.Goals as goal
 

@@ -1,4 +1,4 @@
-use Rattle.std.proofs.Common.{◌≡◌, ◌∙◌, ℤ, map, Some, Err, refl, rules, subst}
+use Rattle.std.proofs.Common.{◌≡◌, ◌∙◌, ℤ, Err, refl, rules, subst}
 use Rattle.std.specs.Prelude.{Result}
 use Rattle.quartz_expr.specs.Vars.{Vars}
 use Rattle.sos_model.specs.declared.fault.ReactFault.{ReactFault}

@@ -1,4 +1,4 @@
-use Rattle.std.proofs.Common.{◌≡◌, ◌<◌, ◌-◌, ◌+◌, ap, map, option_map, length, slice_set, true, refl, sym, subst, ◌∙◌, arith, rules}
+use Rattle.std.proofs.Common.{◌≡◌, ap, map, option_map, slice_set, true, refl, sym, subst, ◌∙◌, arith, rules}
 use Rattle.quartz_tree.specs.Tree.{tree}
 use Rattle.quartz_expr.specs.Terms.{choose, guard_of, loop, scope, write}
 use Rattle.quartz_expr.specs.Typed.{Fits}

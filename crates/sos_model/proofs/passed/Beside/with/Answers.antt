@@ -1,4 +1,3 @@
-use Rattle.std.proofs.Common.{rules}
 use Rattle.sos_model.specs.FormTerms.{term}
 use Rattle.sos_model.specs.declared.passed.Beside.{Beside}
 use Rattle.sos_model.proofs.PassedLemmas.{beside_more}
