@@ -18,7 +18,8 @@ use Rattle.aif_cells.proofs.SolutionLemmas.{there}
 use Rattle.quartz_expr.specs.Values.{same_value}
 use Rattle.absence_reaction.specs.declared.copy.VarCopy.{VarCopy}
 use Rattle.absence_reaction.specs.declared.copy.Shape.{Shape}
-use Rattle.absence_reaction.specs.Closing.{Built, Copy, absence_of, arm_before, arms_for, can_conflict, closed_copy, closed_element, closed_from, conflict_made, disagrees, flag_made, flag_of, guard_for, has_pending, is_memorized, pending_made, pending_of, register_of, value_tree, watched_by}
+use Rattle.absence_reaction.specs.Closing.{Built, Copy, absence_of, arm_before, arms_for, can_conflict, closed_copy, closed_element, closed_from, conflict_made, disagrees, flag_made, flag_of, guard_for, has_pending, pending_made, pending_of, register_of, value_tree, watched_by}
+use Rattle.quartz_tree.specs.Storage.{is_memorized}
 use Rattle.absence_reaction.specs.Meaning.{AreDistinctBelow, is_among}
 use Rattle.absence_reaction.specs.Earlier.{ActionIsBelow, ClosingNamesEarlier, IsBelow, IsIndexBelow, MonitorsAreBelow}
 use Rattle.absence_reaction.proofs.CopyMeaning.{after_flag, after_pending, conflict_extends, element_extends, flag_extends, flagged, from_extends, get_other, last_of, pended, pending_extends, value_there, valued, watched_now}

@@ -23,7 +23,8 @@ use Rattle.aif_cells.specs.Built.{Defined, given_or_new, is_not_nought, join, jo
 use Rattle.aif_cells.proofs.WorthLemmas.{holds_of_bool}
 use Rattle.absence_reaction.specs.declared.copy.VarCopy.{VarCopy}
 use Rattle.absence_reaction.specs.declared.copy.Shape.{Shape}
-use Rattle.absence_reaction.specs.Closing.{Built, absence_of, arm_before, arms_for, guard_for, can_conflict, conflict_made, disagrees, flag_made, flag_of, has_pending, is_memorized, pending_made, pending_of, register_of, value_tree, watched_by}
+use Rattle.absence_reaction.specs.Closing.{Built, absence_of, arm_before, arms_for, guard_for, can_conflict, conflict_made, disagrees, flag_made, flag_of, has_pending, pending_made, pending_of, register_of, value_tree, watched_by}
+use Rattle.quartz_tree.specs.Storage.{is_memorized}
 use Rattle.absence_reaction.specs.Meaning.{GoesOnAt, GuardsAreBits, IsBit, raised}
 use Rattle.absence_reaction.proofs.WriteLemmas.{acting}
 

@@ -3,9 +3,8 @@
 use Rattle.std.specs.Prelude.{ℕ, ◌+◌, ◌*◌, ◌<◌, nat_lt, pos, Bool, true, false, ◌&&◌, List, [], ◌∷◌, ◌++◌, length, map, slice_set, Option, Some, None, if◌then◌else◌}
 use Rattle.quartz_tree.specs.declared.place.Place.{Place}
 use Rattle.quartz_tree.specs.declared.fault.Kind.TheVariants.{Conflict}
-use Rattle.quartz_tree.specs.declared.declare.Storage.{Storage}
-use Rattle.quartz_tree.specs.declared.declare.Storage.TheVariants.{Mem, Event}
 use Rattle.quartz_tree.specs.declared.declare.Var.{Var}
+use Rattle.quartz_tree.specs.Storage.{is_memorized}
 use Rattle.quartz_expr.specs.Values.{same_value}
 use Rattle.aif_cells.specs.declared.reference.Ref.{Ref}
 use Rattle.aif_cells.specs.declared.reference.Ref.TheVariants as ref
@@ -17,10 +16,6 @@ use Rattle.aif_cells.specs.Tree.{Tree, value, two, ite, cases}
 use Rattle.aif_cells.specs.Built.{Defined, Made, given, new, or_all, join, all_defined}
 use Rattle.absence_reaction.specs.declared.copy.VarCopy.{VarCopy}
 use Rattle.absence_reaction.specs.declared.copy.Shape.{Shape}
-
-abbrev pub is_memorized : Storage → Bool
-is_memorized Mem = true
-is_memorized Event = false
 
 -- what closing asks of a variable
 abbrev pub shape_of : Var → Shape

@@ -1,3 +1,5 @@
+//! What actions write to an element: their guards, their values, and where they disagree.
+
 ghost use Rattle.std.specs.Prelude.{◌≡◌, [], ◌++◌, map, option_map, pos, IfOk, OnOk};
 ghost use Rattle.aif_cells.specs.Tree.{tree, two, value};
 ghost use Rattle.absence_reaction.specs.Closing.{arm_before, arms_for as plain_arms_for, disagrees, guard_for as plain_guard_for};
@@ -13,8 +15,10 @@ fn of(alloc: Global, reference: Ref) -> Result<Box<Tree>, NoMemory>
 }
 
 // A guard and a test of the index.
-fn indexed(alloc: Global, element: u32, guard: Ref, index: Ref) -> Result<Tree, NoMemory>
-    ensures { IfOk result (λ t. tree t ≡ two TreeTwo.And (value guard) (two TreeTwo.Eq (value index) (value (Ref.Lit (pos element))))) }
+fn guard_with_index(alloc: Global, element: u32, guard: Ref, index: Ref) -> Result<Tree, NoMemory>
+    ensures { IfOk result
+        (λ t. tree t ≡ two TreeTwo.And (value guard)
+        (two TreeTwo.Eq (value index) (value (Ref.Lit (pos element))))) }
 {
     let test = Tree::Two(
         TreeTwo::Eq,
@@ -37,21 +41,26 @@ fn guard_at(element: u32, guard: Ref, at: i64) -> Option<Tree>
 
 // The guard of an action for an element, and nothing where it writes another element.
 fn guard_for(alloc: Global, element: u32, action: &Action) -> Result<Option<Tree>, NoMemory>
-    ensures { IfOk result (λ g. option_map tree g ≡ plain_guard_for element (value action.now.guard) action.now.index) }
+    ensures { IfOk result
+        (λ g. option_map tree g
+        ≡ plain_guard_for element (value action.now.guard) action.now.index) }
 {
     let guard = action.guard;
     match action.index {
         None => Ok(Some(Tree::Value(guard))),
         Some(Ref::Lit(at)) => Ok(guard_at(element, guard, at)),
-        Some(Ref::Input(at)) => Ok(Some(indexed(alloc, element, guard, Ref::Input(at))?)),
-        Some(Ref::Reg(at)) => Ok(Some(indexed(alloc, element, guard, Ref::Reg(at))?)),
-        Some(Ref::Cell(at)) => Ok(Some(indexed(alloc, element, guard, Ref::Cell(at))?)),
+        Some(Ref::Input(at)) => Ok(Some(guard_with_index(alloc, element, guard, Ref::Input(at))?)),
+        Some(Ref::Reg(at)) => Ok(Some(guard_with_index(alloc, element, guard, Ref::Reg(at))?)),
+        Some(Ref::Cell(at)) => Ok(Some(guard_with_index(alloc, element, guard, Ref::Cell(at))?)),
     }
 }
 
 // A guard and a value behind the others, if there is a guard.
 fn push_arm(arms: &mut Vec<(Tree, Tree)>, guard: Option<Tree>, written: Ref) -> Result<(), NoMemory>
-    ensures { OnOk result (map (λ a. (tree a.0, tree a.1)) arms.new.items ≡ map (λ a. (tree a.0, tree a.1)) arms.old.items ++ arm_before (option_map tree guard) written []) }
+    ensures { OnOk result
+        (map (λ a. (tree a.0, tree a.1)) arms.new.items
+        ≡ map (λ a. (tree a.0, tree a.1)) arms.old.items
+        ++ arm_before (option_map tree guard) written []) }
 {
     match guard {
         None => Ok(()),
@@ -68,7 +77,8 @@ pub(crate) fn arms_for(
     element: u32,
     actions: &[Action],
 ) -> Result<Vec<(Tree, Tree)>, NoMemory>
-    ensures { IfOk result (λ v. map (λ a. (tree a.0, tree a.1)) v.items ≡ plain_arms_for element actions.now) }
+    ensures { IfOk result
+        (λ v. map (λ a. (tree a.0, tree a.1)) v.items ≡ plain_arms_for element actions.now) }
 {
     let mut arms = Vec::new(alloc);
     for action in actions {
@@ -80,7 +90,10 @@ pub(crate) fn arms_for(
 
 // A guard behind the others, if there is one.
 fn push_guard(guards: &mut Vec<Tree>, guard: Option<Tree>, written: Ref) -> Result<(), NoMemory>
-    ensures { OnOk result (map tree guards.new.items ≡ map tree guards.old.items ++ map (λ a. a.0) (arm_before (option_map tree guard) written [])) }
+    ensures { OnOk result
+        (map tree guards.new.items
+        ≡ map tree guards.old.items
+        ++ map (λ a. a.0) (arm_before (option_map tree guard) written [])) }
 {
     match guard {
         None => Ok(()),
@@ -97,7 +110,8 @@ pub(crate) fn guards_for(
     element: u32,
     actions: &[Action],
 ) -> Result<Vec<Tree>, NoMemory>
-    ensures { IfOk result (λ v. map tree v.items ≡ map (λ a. a.0) (plain_arms_for element actions.now)) }
+    ensures { IfOk result
+        (λ v. map tree v.items ≡ map (λ a. a.0) (plain_arms_for element actions.now)) }
 {
     let mut guards = Vec::new(alloc);
     for action in actions {
@@ -127,7 +141,10 @@ fn push_disagreement(
     written: Ref,
     other: Ref,
 ) -> Result<(), NoMemory>
-    ensures { OnOk result (map tree items.new.items ≡ map tree items.old.items ++ map (disagrees other) (arm_before (option_map tree guard) written [])) }
+    ensures { OnOk result
+        (map tree items.new.items
+        ≡ map tree items.old.items
+        ++ map (disagrees other) (arm_before (option_map tree guard) written [])) }
 {
     match guard {
         None => Ok(()),
@@ -145,7 +162,8 @@ pub(crate) fn disagreements_for(
     actions: &[Action],
     other: Ref,
 ) -> Result<Vec<Tree>, NoMemory>
-    ensures { IfOk result (λ v. map tree v.items ≡ map (disagrees other) (plain_arms_for element actions.now)) }
+    ensures { IfOk result
+        (λ v. map tree v.items ≡ map (disagrees other) (plain_arms_for element actions.now)) }
 {
     let mut items = Vec::new(alloc);
     for action in actions {

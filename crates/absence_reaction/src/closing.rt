@@ -1,8 +1,10 @@
+//! Closing a copy of a variable, one element after another.
+
 ghost use Rattle.std.specs.Prelude.{◌≡◌, ◌+◌, ◌*◌, ◌<◌, ◌≤◌, ◌^◌, true, length, slice_get, IfOk, OnOk};
 ghost use Rattle.quartz_tree.specs.declared.declare.Var.{Var};
 ghost use Rattle.aif_cells.specs.Tree.{cases, tree, value};
 ghost use Rattle.aif_cells.specs.Built.{all_defined};
-ghost use Rattle.absence_reaction.specs.Closing.{AreBelow, absence_of, arms_for as plain_arms_for, built, can_conflict as may_conflict, closed_copy, closed_element, conflict_made, flag_of, has_pending as plain_has_pending, is_memorized as plain_is_memorized, pending_made, register_of, registers_each, shape_of, value_tree, watched_by};
+ghost use Rattle.absence_reaction.specs.Closing.{AreBelow, absence_of, arms_for as plain_arms_for, built, can_conflict as may_conflict, closed_copy, closed_element, conflict_made, flag_of, has_pending as plain_has_pending, pending_made, register_of, registers_each, shape_of, value_tree, watched_by};
 
 use crate::arms::{arms_for, disagreements_for, guards_for};
 use crate::copy::{Closed, Shape, VarCopy};
@@ -11,16 +13,26 @@ use quartz_tree::{Kind, NoMemory, Place, Storage, Var};
 use sqlite_items::Items;
 use std::alloc::Global;
 
-/// Closes a copy of a variable: gives its reserved value cells their trees, and makes the cells of the
-/// new flag, the new pending value and the conflicts of each element, with monitors on the conflicts.
+/// Closes a copy of a variable: gives its reserved value cells their trees, and makes the cells of
+/// the new flag, the new pending value and the conflicts of each element, with monitors on the
+/// conflicts.
 ///
 /// After an error the `Aif` is to be dropped.
 pub fn close(alloc: Global, aif: &mut Aif, copy: &VarCopy) -> Result<Closed, NoMemory>
     requires var { copy.now.var < length aif.old.vars }
     requires values { AreBelow (length aif.old.cells) copy.now.values }
     requires registers { copy.now.first + 3 * length copy.now.values < 2 ^ 32 }
-    ensures closed { IfOk result (λ c. (v : Var) → slice_get aif.old.vars copy.entry.now.var ≡ Some v → record { values = c.values; flags = c.flags; pending = c.pending; built = built aif.new.cells aif.new.monitors } ≡ closed_copy (shape_of v) copy.entry.now (built aif.old.cells aif.old.monitors)) }
-    ensures rest { OnOk result (aif.new ≡ record aif.old { cells = aif.new.cells; monitors = aif.new.monitors }) }
+    ensures closed { IfOk result
+        (λ c. (v : Var) → slice_get aif.old.vars copy.entry.now.var ≡ Some v
+        → record {
+          values = c.values;
+          flags = c.flags;
+          pending = c.pending;
+          built = built aif.new.cells aif.new.monitors;
+        }
+        ≡ closed_copy (shape_of v) copy.entry.now (built aif.old.cells aif.old.monitors)) }
+    ensures rest { OnOk result
+        (aif.new ≡ record aif.old { cells = aif.new.cells; monitors = aif.new.monitors }) }
 {
     let shape = shape_in(aif.vars.as_slice(), copy.var);
     close_all(alloc, &mut aif.cells, &mut aif.monitors, shape, copy)
@@ -48,7 +60,14 @@ fn close_all(
 ) -> Result<Closed, NoMemory>
     requires values { AreBelow (length cells.old) copy.now.values }
     requires registers { copy.now.first + 3 * length copy.now.values < 2 ^ 32 }
-    ensures { IfOk result (λ c. record { values = c.values; flags = c.flags; pending = c.pending; built = built cells.new monitors.new } ≡ closed_copy shape copy.entry.now (built cells.old monitors.old)) }
+    ensures { IfOk result
+        (λ c. record {
+          values = c.values;
+          flags = c.flags;
+          pending = c.pending;
+          built = built cells.new monitors.new;
+        }
+        ≡ closed_copy shape copy.entry.now (built cells.old monitors.old)) }
 {
     let mut values = Items::new(alloc);
     let mut flags = Items::new(alloc);
@@ -74,7 +93,8 @@ fn close_all(
     })
 }
 
-// The cells of an element, whose value cell has this number: its new flag, and its new pending value.
+// The cells of an element, whose value cell has this number: its new flag, and its new pending
+// value.
 fn close_element(
     alloc: Global,
     cells: &mut Items<Cell>,
@@ -86,7 +106,9 @@ fn close_element(
 ) -> Result<(Ref, Ref), NoMemory>
     requires cell { cell < length cells.old }
     requires registers { copy.now.first + 3 * (element + 1) < 2 ^ 32 }
-    ensures made { IfOk result (λ r. record { flag = r.0; pending = r.1; built = built cells.new monitors.new } ≡ closed_element shape copy.entry.now element cell (built cells.old monitors.old)) }
+    ensures made { IfOk result
+        (λ r. record { flag = r.0; pending = r.1; built = built cells.new monitors.new }
+        ≡ closed_element shape copy.entry.now element cell (built cells.old monitors.old)) }
     ensures longer { OnOk result (length cells.old ≤ length cells.new) }
 {
     let place = shape.place;
@@ -112,15 +134,6 @@ fn close_element(
     Ok((flag, pending))
 }
 
-fn is_memorized(storage: Storage) -> bool
-    ensures { result ≡ plain_is_memorized storage }
-{
-    match storage {
-        Storage::Mem => true,
-        Storage::Event => false,
-    }
-}
-
 fn has_pending(shape: Shape, copy: &VarCopy) -> bool
     ensures { result ≡ plain_has_pending shape copy.entry.now }
 {
@@ -133,7 +146,7 @@ fn count_registers(shape: Shape) -> u32
     ensures few { result < 4 }
 {
     let delayed = shape.delayed as u32;
-    is_memorized(shape.storage) as u32 + (delayed + delayed)
+    shape.storage.is_memorized() as u32 + (delayed + delayed)
 }
 
 fn register_in(shape: Shape, copy: &VarCopy, element: u32) -> u32
@@ -150,7 +163,7 @@ fn flag_in(shape: Shape, copy: &VarCopy, element: u32) -> u32
     ensures flag { result ≡ flag_of shape copy.entry.now.first element }
     ensures room { result + 1 < 2 ^ 32 }
 {
-    register_in(shape, copy, element) + is_memorized(shape.storage) as u32
+    register_in(shape, copy, element) + shape.storage.is_memorized() as u32
 }
 
 // What the element has where nothing is written.
@@ -209,7 +222,9 @@ fn pending_in(
     element: u32,
     next: &[Action],
 ) -> Result<Ref, NoMemory>
-    ensures { IfOk result (λ r. record { ref = r; cells = all_defined cells.new } ≡ pending_made place (plain_arms_for element next.now) (all_defined cells.old)) }
+    ensures { IfOk result
+        (λ r. record { ref = r; cells = all_defined cells.new }
+        ≡ pending_made place (plain_arms_for element next.now) (all_defined cells.old)) }
 {
     let arms = arms_for(alloc, element, next)?;
     if arms.is_empty() {
@@ -236,7 +251,10 @@ fn watch(
     actions: &[Action],
     other: Ref,
 ) -> Result<(), NoMemory>
-    ensures { OnOk result (built cells.new monitors.new ≡ conflict_made place beside other (plain_arms_for element actions.now) (built cells.old monitors.old)) }
+    ensures { OnOk result
+        (built cells.new monitors.new
+        ≡ conflict_made place beside other (plain_arms_for element actions.now)
+        (built cells.old monitors.old)) }
 {
     let items = disagreements_for(alloc, element, actions, other)?;
     if !can_conflict(beside, items.len()) {
@@ -252,7 +270,9 @@ fn watch_cell(
     place: Place,
     conflict: Tree,
 ) -> Result<(), NoMemory>
-    ensures { OnOk result (built cells.new monitors.new ≡ watched_by place (tree conflict) (built cells.old monitors.old)) }
+    ensures { OnOk result
+        (built cells.new monitors.new
+        ≡ watched_by place (tree conflict) (built cells.old monitors.old)) }
 {
     let Ref::Cell(cell) = add_cell(cells, conflict, place)? else {
         return Err(NoMemory);

@@ -1,12 +1,14 @@
+//! A copy of a variable, and what it is closed with.
+
 use aif_cells::{Action, Ref};
 use quartz_tree::{Place, Storage};
 use sqlite_items::Items;
 
 /// A copy of a variable, and the actions that write to it.
 ///
-/// `values` are its reserved value cells, one for each element. In a copy with store the registers of
-/// the variable begin at `first`: for each element its value, for a memorized variable, and then for a
-/// delayed one its flag and its pending value.
+/// `values` are its reserved value cells, one for each element. In a copy with store the registers
+/// of the variable begin at `first`: for each element its value, for a memorized variable, and then
+/// for a delayed one its flag and its pending value.
 #[derive(Debug, Drop)]
 pub struct VarCopy {
     pub var: u32,

@@ -5,4 +5,5 @@ pub mod PutLemmas
 pub mod SolutionLemmas
 pub mod TextLemmas
 pub mod TreeLemmas
+pub mod WeightLemmas
 pub mod WorthLemmas

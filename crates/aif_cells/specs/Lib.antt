@@ -6,4 +6,5 @@ pub mod Put
 pub mod Solution
 pub mod Text
 pub mod Tree
+pub mod Weight
 pub mod Worth

@@ -1,20 +1,11 @@
--- What a call puts to a sink: pieces of a line, all of them or, where it fails, a part.
+-- The texts of pieces of a line, and of the trees of lists and chains as they are put one after another.
 use Rattle.std.specs.Prelude.{ℕ, List, replicate, decimal}
 use Rattle.std.specs.Fmt.{signed_decimal}
-use Rattle.outside.specs.Bytes.{Gains, GainsBegun}
 use Rattle.aif_cells.specs.declared.piece.Piece.{Piece}
 use Rattle.aif_cells.specs.declared.piece.Piece.TheVariants as piece
 use Rattle.aif_cells.specs.declared.tree.Tree.{Tree as Boxes}
 use Rattle.aif_cells.specs.Tree.{tree}
 use Rattle.aif_cells.specs.Text.{case_text, first_text, next_text, ref_text, texts}
-
--- the sink gained these bytes
-pub record Put (before after : List ℕ → Type 0) (bytes : List ℕ) : Type 0 where
-  pub gained : Gains before after bytes
-
--- the sink gained a prefix of these bytes that lacks at least one
-pub record PutPart (before after : List ℕ → Type 0) (bytes : List ℕ) : Type 0 where
-  pub begun : GainsBegun before after bytes
 
 abbrev pub piece_text : ℕ → Piece → List ℕ
 piece_text _ (piece.Bytes b) = b.now

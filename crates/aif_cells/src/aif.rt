@@ -1,3 +1,5 @@
+//! The cells of a module, and how many elements a variable has.
+
 ghost use Rattle.std.specs.Prelude.{◌≡◌, ◌+◌, ◌-◌, ◌<◌, ◌^◌, IfOk};
 ghost use Rattle.aif_cells.specs.Aif.{elements_of, empty_aif, input_count, input_elements, output_elements};
 

@@ -1,3 +1,5 @@
+//! Cells, registers, guarded actions and monitors.
+
 use crate::reference::Ref;
 use crate::tree::Tree;
 use quartz_tree::{Kind, Place};

@@ -2,8 +2,8 @@
 
 ghost use Rattle.aif_cells.specs.Solution.{BoundCellsAreMet, ExtensionKeeps, ExtensionsFollow, FreeingKeeps};
 
-/// What meets the equations of all cells meets those of the cells that were there before, also where
-/// more cells may be free.
+/// What meets the equations of all cells meets those of the cells that were there before, also
+/// where more cells may be free.
 pub fn extension_keeps_equations()
     ensures keeps { ExtensionKeeps }
     ensures follow { ExtensionsFollow }

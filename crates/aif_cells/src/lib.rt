@@ -1,4 +1,5 @@
-//! Guarded actions as cells: references, trees, cells, registers, actions, monitors, and their text.
+//! Guarded actions as cells: references, trees, cells, registers, actions, monitors, their text
+//! and their weight.
 #![tactic(auto)]
 
 mod aif;
@@ -11,6 +12,7 @@ mod text;
 mod tree;
 mod tree_text;
 mod valuation;
+mod weight;
 
 pub use aif::{Aif, Order, count_elements};
 pub use cells::{Action, Cell, Made, Monitor, Path, Register};
@@ -20,3 +22,4 @@ pub use reference::Ref;
 pub use text::write_text;
 pub use tree::{Tree, TreeOne, TreeTwo};
 pub use valuation::{value_of, worth_of};
+pub use weight::weight_of;

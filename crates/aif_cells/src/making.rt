@@ -1,3 +1,5 @@
+//! New cells: a reference to a tree, and the alternatives of a list.
+
 ghost use Rattle.std.specs.Prelude.{◌≡◌, map, filter, IfOk};
 ghost use Rattle.aif_cells.specs.Built.{all_defined, is_needed, is_not_nought as plain_is_not_nought, join as joined, join_alone as plain_join_alone, new, or_all, reference_in as plain_reference_in};
 ghost use Rattle.aif_cells.specs.Tree.{any, tree};
@@ -12,7 +14,9 @@ use std::alloc::Global;
 /// Adds a cell behind all others, and gives its reference. Where there were 2^32 cells it answers
 /// want of memory.
 pub fn add_cell(cells: &mut Items<Cell>, computed: Tree, place: Place) -> Result<Ref, NoMemory>
-    ensures { IfOk result (λ r. record { ref = r; cells = all_defined cells.new } ≡ new (tree computed) place (all_defined cells.old)) }
+    ensures { IfOk result
+        (λ r. record { ref = r; cells = all_defined cells.new } ≡ new (tree computed) place
+        (all_defined cells.old)) }
 {
     let Ok(number) = u32::try_from(cells.len()) else {
         return Err(NoMemory);
@@ -115,7 +119,9 @@ pub fn join(
     place: Place,
     items: Vec<Tree>,
 ) -> Result<Ref, NoMemory>
-    ensures { IfOk result (λ r. record { ref = r; cells = all_defined cells.new } ≡ joined place (map tree items.items) (all_defined cells.old)) }
+    ensures { IfOk result
+        (λ r. record { ref = r; cells = all_defined cells.new } ≡ joined place
+        (map tree items.items) (all_defined cells.old)) }
 {
     let left = without_noughts(items);
     if let Some(reference) = join_alone(left.as_slice()) {

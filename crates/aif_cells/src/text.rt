@@ -1,12 +1,10 @@
-#![tactic(auto, using(crate::proofs::PutLemmas::part_first, crate::proofs::PutLemmas::part_later))]
+//! The text of cells, line by line.
 
-ghost use Rattle.std.specs.Prelude.{◌≡◌, ◌+◌, ◌<◌, ◌≤◌, ◌^◌, ◌++◌, codes, decimal, drop, length, min, take, OnOk, OnErr};
-ghost use Rattle.outside.specs.Bytes.{Rose, Gains, GainsBegun};
+ghost use Rattle.std.specs.Prelude.{◌≡◌, ◌+◌, ◌<◌, ◌^◌, ◌++◌, codes, decimal, drop, length, min, take};
+ghost use Rattle.outside.specs.Puts.{Puts};
 ghost use Rattle.outside.specs.Report.{kind_text};
 ghost use Rattle.aif_cells.specs.Aif.{elements_of, input_count, input_elements};
-ghost use Rattle.aif_cells.specs.Tree.{tree};
 ghost use Rattle.aif_cells.specs.Text.{action_line, aif_text, base_text, cell_line, copy_text, counted_from, index_text, input_line, input_lines, input_text, length_text, lines_text, local_line, monitor_line, named_text, number_text, output_line, output_lines, output_text, ref_text, register_line, storage_text, target_text, texts, tree_text, typed_text, vars_text};
-ghost use Rattle.aif_cells.specs.Put.{Put, PutPart};
 
 use crate::aif::{Aif, count_elements, count_input_elements, count_output_elements};
 use crate::cells::{Action, Cell, Monitor, Register};
@@ -19,20 +17,7 @@ use quartz_tree::{Base, Flow, Kind, Storage, Var};
 /// Puts the text of cells, registers, actions and monitors, line by line, one put after another.
 pub fn write_text<O: Sink>(aif: &Aif, out: &mut O) -> Result<(), Failed>
     requires { input_count aif.now.vars < 2 ^ 31 }
-    ensures never_falls { O.faults out.old ≤ O.faults out.new }
-    ensures gained { OnOk result (Gains (O.stands out.old) (O.stands out.new) (aif_text aif.now)) }
-    ensures rose { OnErr result (Rose (O.faults out.old) (O.faults out.new)) }
-    ensures begun { OnErr result (GainsBegun (O.stands out.old) (O.stands out.new) (aif_text aif.now)) }
-{
-    put_aif(out, aif)
-}
-
-fn put_aif<O: Sink>(out: &mut O, aif: &Aif) -> Result<(), Failed>
-    requires { input_count aif.now.vars < 2 ^ 31 }
-    ensures never_falls { O.faults out.old ≤ O.faults out.new }
-    ensures gained { OnOk result (Put (O.stands out.old) (O.stands out.new) (aif_text aif.now)) }
-    ensures rose { OnErr result (Rose (O.faults out.old) (O.faults out.new)) }
-    ensures begun { OnErr result (PutPart (O.stands out.old) (O.stands out.new) (aif_text aif.now)) }
+    ensures { Puts O.stands O.faults result out.old out.new (aif_text aif.now) }
 {
     put_module(out, aif)?;
     put_vars(out, aif)?;
@@ -41,10 +26,8 @@ fn put_aif<O: Sink>(out: &mut O, aif: &Aif) -> Result<(), Failed>
 }
 
 fn put_module<O: Sink>(out: &mut O, aif: &Aif) -> Result<(), Failed>
-    ensures never_falls { O.faults out.old ≤ O.faults out.new }
-    ensures gained { OnOk result (Put (O.stands out.old) (O.stands out.new) (codes "module " ++ (aif.now.name ++ codes "\n"))) }
-    ensures rose { OnErr result (Rose (O.faults out.old) (O.faults out.new)) }
-    ensures begun { OnErr result (PutPart (O.stands out.old) (O.stands out.new) (codes "module " ++ (aif.now.name ++ codes "\n"))) }
+    ensures { Puts O.stands O.faults result out.old out.new
+        (codes "module " ++ (aif.now.name ++ codes "\n")) }
 {
     let name = Piece::Bytes(aif.name.text().as_bytes());
     put_pieces(out, &[Piece::Bytes(b"module "), name, Piece::Bytes(b"\n")])
@@ -53,10 +36,7 @@ fn put_module<O: Sink>(out: &mut O, aif: &Aif) -> Result<(), Failed>
 // The lines of variables.
 fn put_vars<O: Sink>(out: &mut O, aif: &Aif) -> Result<(), Failed>
     requires { input_count aif.now.vars < 2 ^ 31 }
-    ensures never_falls { O.faults out.old ≤ O.faults out.new }
-    ensures gained { OnOk result (Put (O.stands out.old) (O.stands out.new) (vars_text aif.now)) }
-    ensures rose { OnErr result (Rose (O.faults out.old) (O.faults out.new)) }
-    ensures begun { OnErr result (PutPart (O.stands out.old) (O.stands out.new) (vars_text aif.now)) }
+    ensures { Puts O.stands O.faults result out.old out.new (vars_text aif.now) }
 {
     put_input_lines(out, aif)?;
     put_output_lines(out, aif)?;
@@ -66,38 +46,27 @@ fn put_vars<O: Sink>(out: &mut O, aif: &Aif) -> Result<(), Failed>
 
 fn put_input_lines<O: Sink>(out: &mut O, aif: &Aif) -> Result<(), Failed>
     requires { input_count aif.now.vars < 2 ^ 31 }
-    ensures never_falls { O.faults out.old ≤ O.faults out.new }
-    ensures gained { OnOk result (Put (O.stands out.old) (O.stands out.new) (input_lines 0 0 aif.now.vars)) }
-    ensures rose { OnErr result (Rose (O.faults out.old) (O.faults out.new)) }
-    ensures begun { OnErr result (PutPart (O.stands out.old) (O.stands out.new) (input_lines 0 0 aif.now.vars)) }
+    ensures { Puts O.stands O.faults result out.old out.new (input_lines 0 0 aif.now.vars) }
 {
     put_inputs(out, aif.vars.as_slice())
 }
 
 fn put_output_lines<O: Sink>(out: &mut O, aif: &Aif) -> Result<(), Failed>
-    ensures never_falls { O.faults out.old ≤ O.faults out.new }
-    ensures gained { OnOk result (Put (O.stands out.old) (O.stands out.new) (output_lines 0 aif.now.outputs aif.now.vars)) }
-    ensures rose { OnErr result (Rose (O.faults out.old) (O.faults out.new)) }
-    ensures begun { OnErr result (PutPart (O.stands out.old) (O.stands out.new) (output_lines 0 aif.now.outputs aif.now.vars)) }
+    ensures { Puts O.stands O.faults result out.old out.new
+        (output_lines 0 aif.now.outputs aif.now.vars) }
 {
     put_outputs(out, aif.vars.as_slice(), aif.outputs.as_slice())
 }
 
 fn put_local_lines<O: Sink>(out: &mut O, aif: &Aif) -> Result<(), Failed>
-    ensures never_falls { O.faults out.old ≤ O.faults out.new }
-    ensures gained { OnOk result (Put (O.stands out.old) (O.stands out.new) (texts local_line 0 aif.now.vars)) }
-    ensures rose { OnErr result (Rose (O.faults out.old) (O.faults out.new)) }
-    ensures begun { OnErr result (PutPart (O.stands out.old) (O.stands out.new) (texts local_line 0 aif.now.vars)) }
+    ensures { Puts O.stands O.faults result out.old out.new (texts local_line 0 aif.now.vars) }
 {
     put_locals(out, aif.vars.as_slice())
 }
 
 // The lines of registers, cells, actions and monitors.
 fn put_lines<O: Sink>(out: &mut O, aif: &Aif) -> Result<(), Failed>
-    ensures never_falls { O.faults out.old ≤ O.faults out.new }
-    ensures gained { OnOk result (Put (O.stands out.old) (O.stands out.new) (lines_text aif.now)) }
-    ensures rose { OnErr result (Rose (O.faults out.old) (O.faults out.new)) }
-    ensures begun { OnErr result (PutPart (O.stands out.old) (O.stands out.new) (lines_text aif.now)) }
+    ensures { Puts O.stands O.faults result out.old out.new (lines_text aif.now) }
 {
     put_register_lines(out, aif)?;
     put_cell_lines(out, aif)?;
@@ -107,47 +76,34 @@ fn put_lines<O: Sink>(out: &mut O, aif: &Aif) -> Result<(), Failed>
 }
 
 fn put_register_lines<O: Sink>(out: &mut O, aif: &Aif) -> Result<(), Failed>
-    ensures never_falls { O.faults out.old ≤ O.faults out.new }
-    ensures gained { OnOk result (Put (O.stands out.old) (O.stands out.new) (texts register_line 0 aif.now.registers)) }
-    ensures rose { OnErr result (Rose (O.faults out.old) (O.faults out.new)) }
-    ensures begun { OnErr result (PutPart (O.stands out.old) (O.stands out.new) (texts register_line 0 aif.now.registers)) }
+    ensures { Puts O.stands O.faults result out.old out.new
+        (texts register_line 0 aif.now.registers) }
 {
     put_registers(out, aif.registers.as_slice())
 }
 
 fn put_cell_lines<O: Sink>(out: &mut O, aif: &Aif) -> Result<(), Failed>
-    ensures never_falls { O.faults out.old ≤ O.faults out.new }
-    ensures gained { OnOk result (Put (O.stands out.old) (O.stands out.new) (texts cell_line 0 aif.now.cells)) }
-    ensures rose { OnErr result (Rose (O.faults out.old) (O.faults out.new)) }
-    ensures begun { OnErr result (PutPart (O.stands out.old) (O.stands out.new) (texts cell_line 0 aif.now.cells)) }
+    ensures { Puts O.stands O.faults result out.old out.new (texts cell_line 0 aif.now.cells) }
 {
     put_cells(out, aif.cells.as_slice())
 }
 
 fn put_action_lines<O: Sink>(out: &mut O, aif: &Aif) -> Result<(), Failed>
-    ensures never_falls { O.faults out.old ≤ O.faults out.new }
-    ensures gained { OnOk result (Put (O.stands out.old) (O.stands out.new) (texts action_line 0 aif.now.actions)) }
-    ensures rose { OnErr result (Rose (O.faults out.old) (O.faults out.new)) }
-    ensures begun { OnErr result (PutPart (O.stands out.old) (O.stands out.new) (texts action_line 0 aif.now.actions)) }
+    ensures { Puts O.stands O.faults result out.old out.new (texts action_line 0 aif.now.actions) }
 {
     put_actions(out, aif.actions.as_slice())
 }
 
 fn put_monitor_lines<O: Sink>(out: &mut O, aif: &Aif) -> Result<(), Failed>
-    ensures never_falls { O.faults out.old ≤ O.faults out.new }
-    ensures gained { OnOk result (Put (O.stands out.old) (O.stands out.new) (texts monitor_line 0 aif.now.monitors)) }
-    ensures rose { OnErr result (Rose (O.faults out.old) (O.faults out.new)) }
-    ensures begun { OnErr result (PutPart (O.stands out.old) (O.stands out.new) (texts monitor_line 0 aif.now.monitors)) }
+    ensures { Puts O.stands O.faults result out.old out.new
+        (texts monitor_line 0 aif.now.monitors) }
 {
     put_monitors(out, aif.monitors.as_slice())
 }
 
 fn put_inputs<O: Sink>(out: &mut O, vars: &[Var]) -> Result<(), Failed>
     requires { input_count vars.now < 2 ^ 31 }
-    ensures never_falls { O.faults out.old ≤ O.faults out.new }
-    ensures gained { OnOk result (Put (O.stands out.old) (O.stands out.new) (input_lines 0 0 vars.now)) }
-    ensures rose { OnErr result (Rose (O.faults out.old) (O.faults out.new)) }
-    ensures begun { OnErr result (PutPart (O.stands out.old) (O.stands out.new) (input_lines 0 0 vars.now)) }
+    ensures { Puts O.stands O.faults result out.old out.new (input_lines 0 0 vars.now) }
 {
     let mut first = 0;
     for (number, var) in vars.iter().enumerate() {
@@ -159,10 +115,7 @@ fn put_inputs<O: Sink>(out: &mut O, vars: &[Var]) -> Result<(), Failed>
 
 fn put_if_input<O: Sink>(out: &mut O, number: usize, first: u32, var: &Var) -> Result<(), Failed>
     requires { first + input_elements var.now < 2 ^ 32 }
-    ensures never_falls { O.faults out.old ≤ O.faults out.new }
-    ensures gained { OnOk result (Put (O.stands out.old) (O.stands out.new) (input_text number first var.now)) }
-    ensures rose { OnErr result (Rose (O.faults out.old) (O.faults out.new)) }
-    ensures begun { OnErr result (PutPart (O.stands out.old) (O.stands out.new) (input_text number first var.now)) }
+    ensures { Puts O.stands O.faults result out.old out.new (input_text number first var.now) }
 {
     if var.decl.flow == Flow::Input {
         put_input(out, number, first, var)
@@ -173,10 +126,7 @@ fn put_if_input<O: Sink>(out: &mut O, number: usize, first: u32, var: &Var) -> R
 
 fn put_input<O: Sink>(out: &mut O, number: usize, first: u32, var: &Var) -> Result<(), Failed>
     requires { first + elements_of var.now < 2 ^ 32 }
-    ensures never_falls { O.faults out.old ≤ O.faults out.new }
-    ensures gained { OnOk result (Put (O.stands out.old) (O.stands out.new) (input_line number first var.now)) }
-    ensures rose { OnErr result (Rose (O.faults out.old) (O.faults out.new)) }
-    ensures begun { OnErr result (PutPart (O.stands out.old) (O.stands out.new) (input_line number first var.now)) }
+    ensures { Puts O.stands O.faults result out.old out.new (input_line number first var.now) }
 {
     put_named(out, b"input ", var)?;
     put_typed(out, number, var)?;
@@ -187,10 +137,8 @@ fn put_input<O: Sink>(out: &mut O, number: usize, first: u32, var: &Var) -> Resu
 
 fn put_elements<O: Sink>(out: &mut O, first: u32, var: &Var) -> Result<(), Failed>
     requires { first + elements_of var.now < 2 ^ 32 }
-    ensures never_falls { O.faults out.old ≤ O.faults out.new }
-    ensures gained { OnOk result (Put (O.stands out.old) (O.stands out.new) (texts (number_text (codes " i")) 0 (counted_from first (elements_of var.now)))) }
-    ensures rose { OnErr result (Rose (O.faults out.old) (O.faults out.new)) }
-    ensures begun { OnErr result (PutPart (O.stands out.old) (O.stands out.new) (texts (number_text (codes " i")) 0 (counted_from first (elements_of var.now)))) }
+    ensures { Puts O.stands O.faults result out.old out.new
+        (texts (number_text (codes " i")) 0 (counted_from first (elements_of var.now))) }
 {
     put_counted(out, first, count_elements(var) as u32)
 }
@@ -198,10 +146,8 @@ fn put_elements<O: Sink>(out: &mut O, first: u32, var: &Var) -> Result<(), Faile
 // So many input elements from the first on.
 fn put_counted<O: Sink>(out: &mut O, first: u32, count: u32) -> Result<(), Failed>
     requires { first + count < 2 ^ 32 }
-    ensures never_falls { O.faults out.old ≤ O.faults out.new }
-    ensures gained { OnOk result (Put (O.stands out.old) (O.stands out.new) (texts (number_text (codes " i")) 0 (counted_from first count))) }
-    ensures rose { OnErr result (Rose (O.faults out.old) (O.faults out.new)) }
-    ensures begun { OnErr result (PutPart (O.stands out.old) (O.stands out.new) (texts (number_text (codes " i")) 0 (counted_from first count))) }
+    ensures { Puts O.stands O.faults result out.old out.new
+        (texts (number_text (codes " i")) 0 (counted_from first count)) }
 {
     for at in 0..count {
         put_numbered(out, b" i", first + at)?;
@@ -210,10 +156,7 @@ fn put_counted<O: Sink>(out: &mut O, first: u32, count: u32) -> Result<(), Faile
 }
 
 fn put_numbered<O: Sink>(out: &mut O, letter: &[u8], number: u32) -> Result<(), Failed>
-    ensures never_falls { O.faults out.old ≤ O.faults out.new }
-    ensures gained { OnOk result (Put (O.stands out.old) (O.stands out.new) (number_text letter.now 0 number)) }
-    ensures rose { OnErr result (Rose (O.faults out.old) (O.faults out.new)) }
-    ensures begun { OnErr result (PutPart (O.stands out.old) (O.stands out.new) (number_text letter.now 0 number)) }
+    ensures { Puts O.stands O.faults result out.old out.new (number_text letter.now 0 number) }
 {
     put(out, letter)?;
     put_count(out, number as u128)?;
@@ -221,10 +164,7 @@ fn put_numbered<O: Sink>(out: &mut O, letter: &[u8], number: u32) -> Result<(), 
 }
 
 fn put_outputs<O: Sink>(out: &mut O, vars: &[Var], outputs: &[u32]) -> Result<(), Failed>
-    ensures never_falls { O.faults out.old ≤ O.faults out.new }
-    ensures gained { OnOk result (Put (O.stands out.old) (O.stands out.new) (output_lines 0 outputs.now vars.now)) }
-    ensures rose { OnErr result (Rose (O.faults out.old) (O.faults out.new)) }
-    ensures begun { OnErr result (PutPart (O.stands out.old) (O.stands out.new) (output_lines 0 outputs.now vars.now)) }
+    ensures { Puts O.stands O.faults result out.old out.new (output_lines 0 outputs.now vars.now) }
 {
     let mut left = outputs;
     for (number, var) in vars.iter().enumerate() {
@@ -235,10 +175,7 @@ fn put_outputs<O: Sink>(out: &mut O, vars: &[Var], outputs: &[u32]) -> Result<()
 }
 
 fn put_if_output<O: Sink>(out: &mut O, number: usize, left: &[u32], var: &Var) -> Result<(), Failed>
-    ensures never_falls { O.faults out.old ≤ O.faults out.new }
-    ensures gained { OnOk result (Put (O.stands out.old) (O.stands out.new) (output_text number left.now var.now)) }
-    ensures rose { OnErr result (Rose (O.faults out.old) (O.faults out.new)) }
-    ensures begun { OnErr result (PutPart (O.stands out.old) (O.stands out.new) (output_text number left.now var.now)) }
+    ensures { Puts O.stands O.faults result out.old out.new (output_text number left.now var.now) }
 {
     if var.decl.flow == Flow::Output {
         put_output(out, number, first_of(left, count_elements(var)), var)
@@ -273,10 +210,7 @@ fn behind(numbers: &[u32], count: u128) -> &[u32]
 }
 
 fn put_output<O: Sink>(out: &mut O, number: usize, cells: &[u32], var: &Var) -> Result<(), Failed>
-    ensures never_falls { O.faults out.old ≤ O.faults out.new }
-    ensures gained { OnOk result (Put (O.stands out.old) (O.stands out.new) (output_line number cells.now var.now)) }
-    ensures rose { OnErr result (Rose (O.faults out.old) (O.faults out.new)) }
-    ensures begun { OnErr result (PutPart (O.stands out.old) (O.stands out.new) (output_line number cells.now var.now)) }
+    ensures { Puts O.stands O.faults result out.old out.new (output_line number cells.now var.now) }
 {
     put_named(out, b"output ", var)?;
     put_storage(out, var.decl.storage)?;
@@ -290,10 +224,9 @@ fn put_typed_cells<O: Sink>(
     cells: &[u32],
     var: &Var,
 ) -> Result<(), Failed>
-    ensures never_falls { O.faults out.old ≤ O.faults out.new }
-    ensures gained { OnOk result (Put (O.stands out.old) (O.stands out.new) ((typed_text number var.now) ++ ((texts (number_text (codes " c")) 0 cells.now) ++ (codes "\n")))) }
-    ensures rose { OnErr result (Rose (O.faults out.old) (O.faults out.new)) }
-    ensures begun { OnErr result (PutPart (O.stands out.old) (O.stands out.new) ((typed_text number var.now) ++ ((texts (number_text (codes " c")) 0 cells.now) ++ (codes "\n")))) }
+    ensures { Puts O.stands O.faults result out.old out.new
+        (typed_text number var.now
+        ++ (texts (number_text (codes " c")) 0 cells.now ++ codes "\n")) }
 {
     put_typed(out, number, var)?;
     put_value_cells(out, cells)?;
@@ -302,10 +235,8 @@ fn put_typed_cells<O: Sink>(
 }
 
 fn put_value_cells<O: Sink>(out: &mut O, cells: &[u32]) -> Result<(), Failed>
-    ensures never_falls { O.faults out.old ≤ O.faults out.new }
-    ensures gained { OnOk result (Put (O.stands out.old) (O.stands out.new) (texts (number_text (codes " c")) 0 cells.now)) }
-    ensures rose { OnErr result (Rose (O.faults out.old) (O.faults out.new)) }
-    ensures begun { OnErr result (PutPart (O.stands out.old) (O.stands out.new) (texts (number_text (codes " c")) 0 cells.now)) }
+    ensures { Puts O.stands O.faults result out.old out.new
+        (texts (number_text (codes " c")) 0 cells.now) }
 {
     for cell in cells {
         put_numbered(out, b" c", *cell)?;
@@ -314,10 +245,7 @@ fn put_value_cells<O: Sink>(out: &mut O, cells: &[u32]) -> Result<(), Failed>
 }
 
 fn put_locals<O: Sink>(out: &mut O, vars: &[Var]) -> Result<(), Failed>
-    ensures never_falls { O.faults out.old ≤ O.faults out.new }
-    ensures gained { OnOk result (Put (O.stands out.old) (O.stands out.new) (texts local_line 0 vars.now)) }
-    ensures rose { OnErr result (Rose (O.faults out.old) (O.faults out.new)) }
-    ensures begun { OnErr result (PutPart (O.stands out.old) (O.stands out.new) (texts local_line 0 vars.now)) }
+    ensures { Puts O.stands O.faults result out.old out.new (texts local_line 0 vars.now) }
 {
     for (number, var) in vars.iter().enumerate() {
         put_local(out, number, var)?;
@@ -326,10 +254,7 @@ fn put_locals<O: Sink>(out: &mut O, vars: &[Var]) -> Result<(), Failed>
 }
 
 fn put_local<O: Sink>(out: &mut O, number: usize, var: &Var) -> Result<(), Failed>
-    ensures never_falls { O.faults out.old ≤ O.faults out.new }
-    ensures gained { OnOk result (Put (O.stands out.old) (O.stands out.new) (local_line number var.now)) }
-    ensures rose { OnErr result (Rose (O.faults out.old) (O.faults out.new)) }
-    ensures begun { OnErr result (PutPart (O.stands out.old) (O.stands out.new) (local_line number var.now)) }
+    ensures { Puts O.stands O.faults result out.old out.new (local_line number var.now) }
 {
     if var.decl.flow == Flow::Inner {
         put_inner(out, number, var)
@@ -339,10 +264,9 @@ fn put_local<O: Sink>(out: &mut O, number: usize, var: &Var) -> Result<(), Faile
 }
 
 fn put_inner<O: Sink>(out: &mut O, number: usize, var: &Var) -> Result<(), Failed>
-    ensures never_falls { O.faults out.old ≤ O.faults out.new }
-    ensures gained { OnOk result (Put (O.stands out.old) (O.stands out.new) ((named_text (codes "local ") var.now) ++ ((storage_text var.now.decl.storage) ++ ((typed_text number var.now) ++ (codes "\n"))))) }
-    ensures rose { OnErr result (Rose (O.faults out.old) (O.faults out.new)) }
-    ensures begun { OnErr result (PutPart (O.stands out.old) (O.stands out.new) ((named_text (codes "local ") var.now) ++ ((storage_text var.now.decl.storage) ++ ((typed_text number var.now) ++ (codes "\n"))))) }
+    ensures { Puts O.stands O.faults result out.old out.new
+        (named_text (codes "local ") var.now
+        ++ (storage_text var.now.decl.storage ++ (typed_text number var.now ++ codes "\n"))) }
 {
     put_named(out, b"local ", var)?;
     put_storage(out, var.decl.storage)?;
@@ -353,10 +277,7 @@ fn put_inner<O: Sink>(out: &mut O, number: usize, var: &Var) -> Result<(), Faile
 
 // A word, and the variable's name.
 fn put_named<O: Sink>(out: &mut O, word: &[u8], var: &Var) -> Result<(), Failed>
-    ensures never_falls { O.faults out.old ≤ O.faults out.new }
-    ensures gained { OnOk result (Put (O.stands out.old) (O.stands out.new) (named_text word.now var.now)) }
-    ensures rose { OnErr result (Rose (O.faults out.old) (O.faults out.new)) }
-    ensures begun { OnErr result (PutPart (O.stands out.old) (O.stands out.new) (named_text word.now var.now)) }
+    ensures { Puts O.stands O.faults result out.old out.new (named_text word.now var.now) }
 {
     put(out, word)?;
     put_name(out, var)?;
@@ -366,10 +287,7 @@ fn put_named<O: Sink>(out: &mut O, word: &[u8], var: &Var) -> Result<(), Failed>
 
 // The type and the variable's number.
 fn put_typed<O: Sink>(out: &mut O, number: usize, var: &Var) -> Result<(), Failed>
-    ensures never_falls { O.faults out.old ≤ O.faults out.new }
-    ensures gained { OnOk result (Put (O.stands out.old) (O.stands out.new) (typed_text number var.now)) }
-    ensures rose { OnErr result (Rose (O.faults out.old) (O.faults out.new)) }
-    ensures begun { OnErr result (PutPart (O.stands out.old) (O.stands out.new) (typed_text number var.now)) }
+    ensures { Puts O.stands O.faults result out.old out.new (typed_text number var.now) }
 {
     put_length(out, var.decl.ty.len)?;
     put_base(out, var.decl.ty.base)?;
@@ -379,10 +297,7 @@ fn put_typed<O: Sink>(out: &mut O, number: usize, var: &Var) -> Result<(), Faile
 }
 
 fn put_length<O: Sink>(out: &mut O, len: Option<u128>) -> Result<(), Failed>
-    ensures never_falls { O.faults out.old ≤ O.faults out.new }
-    ensures gained { OnOk result (Put (O.stands out.old) (O.stands out.new) (length_text len)) }
-    ensures rose { OnErr result (Rose (O.faults out.old) (O.faults out.new)) }
-    ensures begun { OnErr result (PutPart (O.stands out.old) (O.stands out.new) (length_text len)) }
+    ensures { Puts O.stands O.faults result out.old out.new (length_text len) }
 {
     match len {
         None => Ok(()),
@@ -394,10 +309,7 @@ fn put_length<O: Sink>(out: &mut O, len: Option<u128>) -> Result<(), Failed>
 }
 
 fn put_base<O: Sink>(out: &mut O, base: Base) -> Result<(), Failed>
-    ensures never_falls { O.faults out.old ≤ O.faults out.new }
-    ensures gained { OnOk result (Put (O.stands out.old) (O.stands out.new) (base_text base)) }
-    ensures rose { OnErr result (Rose (O.faults out.old) (O.faults out.new)) }
-    ensures begun { OnErr result (PutPart (O.stands out.old) (O.stands out.new) (base_text base)) }
+    ensures { Puts O.stands O.faults result out.old out.new (base_text base) }
 {
     let close = Piece::Bytes(b"}");
     match base {
@@ -409,10 +321,7 @@ fn put_base<O: Sink>(out: &mut O, base: Base) -> Result<(), Failed>
 }
 
 fn put_storage<O: Sink>(out: &mut O, storage: Storage) -> Result<(), Failed>
-    ensures never_falls { O.faults out.old ≤ O.faults out.new }
-    ensures gained { OnOk result (Put (O.stands out.old) (O.stands out.new) (storage_text storage)) }
-    ensures rose { OnErr result (Rose (O.faults out.old) (O.faults out.new)) }
-    ensures begun { OnErr result (PutPart (O.stands out.old) (O.stands out.new) (storage_text storage)) }
+    ensures { Puts O.stands O.faults result out.old out.new (storage_text storage) }
 {
     match storage {
         Storage::Mem => put(out, b"mem "),
@@ -421,19 +330,13 @@ fn put_storage<O: Sink>(out: &mut O, storage: Storage) -> Result<(), Failed>
 }
 
 fn put_name<O: Sink>(out: &mut O, var: &Var) -> Result<(), Failed>
-    ensures never_falls { O.faults out.old ≤ O.faults out.new }
-    ensures gained { OnOk result (Put (O.stands out.old) (O.stands out.new) (var.now.decl.name)) }
-    ensures rose { OnErr result (Rose (O.faults out.old) (O.faults out.new)) }
-    ensures begun { OnErr result (PutPart (O.stands out.old) (O.stands out.new) (var.now.decl.name)) }
+    ensures { Puts O.stands O.faults result out.old out.new var.now.decl.name }
 {
     put(out, var.decl.name.text().as_bytes())
 }
 
 fn put_registers<O: Sink>(out: &mut O, registers: &[Register]) -> Result<(), Failed>
-    ensures never_falls { O.faults out.old ≤ O.faults out.new }
-    ensures gained { OnOk result (Put (O.stands out.old) (O.stands out.new) (texts register_line 0 registers.now)) }
-    ensures rose { OnErr result (Rose (O.faults out.old) (O.faults out.new)) }
-    ensures begun { OnErr result (PutPart (O.stands out.old) (O.stands out.new) (texts register_line 0 registers.now)) }
+    ensures { Puts O.stands O.faults result out.old out.new (texts register_line 0 registers.now) }
 {
     for (number, register) in registers.iter().enumerate() {
         put_register(out, number, register)?;
@@ -442,10 +345,7 @@ fn put_registers<O: Sink>(out: &mut O, registers: &[Register]) -> Result<(), Fai
 }
 
 fn put_register<O: Sink>(out: &mut O, number: usize, register: &Register) -> Result<(), Failed>
-    ensures never_falls { O.faults out.old ≤ O.faults out.new }
-    ensures gained { OnOk result (Put (O.stands out.old) (O.stands out.new) (register_line number register.now)) }
-    ensures rose { OnErr result (Rose (O.faults out.old) (O.faults out.new)) }
-    ensures begun { OnErr result (PutPart (O.stands out.old) (O.stands out.new) (register_line number register.now)) }
+    ensures { Puts O.stands O.faults result out.old out.new (register_line number register.now) }
 {
     put_pieces(
         out,
@@ -462,10 +362,7 @@ fn put_register<O: Sink>(out: &mut O, number: usize, register: &Register) -> Res
 }
 
 fn put_cells<O: Sink>(out: &mut O, cells: &[Cell]) -> Result<(), Failed>
-    ensures never_falls { O.faults out.old ≤ O.faults out.new }
-    ensures gained { OnOk result (Put (O.stands out.old) (O.stands out.new) (texts cell_line 0 cells.now)) }
-    ensures rose { OnErr result (Rose (O.faults out.old) (O.faults out.new)) }
-    ensures begun { OnErr result (PutPart (O.stands out.old) (O.stands out.new) (texts cell_line 0 cells.now)) }
+    ensures { Puts O.stands O.faults result out.old out.new (texts cell_line 0 cells.now) }
 {
     for (number, cell) in cells.iter().enumerate() {
         put_cell(out, number, cell)?;
@@ -474,10 +371,7 @@ fn put_cells<O: Sink>(out: &mut O, cells: &[Cell]) -> Result<(), Failed>
 }
 
 fn put_cell<O: Sink>(out: &mut O, number: usize, cell: &Cell) -> Result<(), Failed>
-    ensures never_falls { O.faults out.old ≤ O.faults out.new }
-    ensures gained { OnOk result (Put (O.stands out.old) (O.stands out.new) (cell_line number cell.now)) }
-    ensures rose { OnErr result (Rose (O.faults out.old) (O.faults out.new)) }
-    ensures begun { OnErr result (PutPart (O.stands out.old) (O.stands out.new) (cell_line number cell.now)) }
+    ensures { Puts O.stands O.faults result out.old out.new (cell_line number cell.now) }
 {
     put_head(out, number)?;
     put_tree(out, &cell.tree)?;
@@ -486,10 +380,8 @@ fn put_cell<O: Sink>(out: &mut O, number: usize, cell: &Cell) -> Result<(), Fail
 }
 
 fn put_head<O: Sink>(out: &mut O, number: usize) -> Result<(), Failed>
-    ensures never_falls { O.faults out.old ≤ O.faults out.new }
-    ensures gained { OnOk result (Put (O.stands out.old) (O.stands out.new) (codes "cell c" ++ (decimal number ++ codes " = "))) }
-    ensures rose { OnErr result (Rose (O.faults out.old) (O.faults out.new)) }
-    ensures begun { OnErr result (PutPart (O.stands out.old) (O.stands out.new) (codes "cell c" ++ (decimal number ++ codes " = "))) }
+    ensures { Puts O.stands O.faults result out.old out.new
+        (codes "cell c" ++ (decimal number ++ codes " = ")) }
 {
     let number = Piece::Count(number as u128);
     put_pieces(
@@ -499,10 +391,7 @@ fn put_head<O: Sink>(out: &mut O, number: usize) -> Result<(), Failed>
 }
 
 fn put_actions<O: Sink>(out: &mut O, actions: &[Action]) -> Result<(), Failed>
-    ensures never_falls { O.faults out.old ≤ O.faults out.new }
-    ensures gained { OnOk result (Put (O.stands out.old) (O.stands out.new) (texts action_line 0 actions.now)) }
-    ensures rose { OnErr result (Rose (O.faults out.old) (O.faults out.new)) }
-    ensures begun { OnErr result (PutPart (O.stands out.old) (O.stands out.new) (texts action_line 0 actions.now)) }
+    ensures { Puts O.stands O.faults result out.old out.new (texts action_line 0 actions.now) }
 {
     for action in actions {
         put_action(out, action)?;
@@ -511,10 +400,7 @@ fn put_actions<O: Sink>(out: &mut O, actions: &[Action]) -> Result<(), Failed>
 }
 
 fn put_action<O: Sink>(out: &mut O, action: &Action) -> Result<(), Failed>
-    ensures never_falls { O.faults out.old ≤ O.faults out.new }
-    ensures gained { OnOk result (Put (O.stands out.old) (O.stands out.new) (action_line 0 action.now)) }
-    ensures rose { OnErr result (Rose (O.faults out.old) (O.faults out.new)) }
-    ensures begun { OnErr result (PutPart (O.stands out.old) (O.stands out.new) (action_line 0 action.now)) }
+    ensures { Puts O.stands O.faults result out.old out.new (action_line 0 action.now) }
 {
     put_guard(out, action.guard)?;
     put_target(out, action)?;
@@ -523,10 +409,8 @@ fn put_action<O: Sink>(out: &mut O, action: &Action) -> Result<(), Failed>
 }
 
 fn put_guard<O: Sink>(out: &mut O, guard: Ref) -> Result<(), Failed>
-    ensures never_falls { O.faults out.old ≤ O.faults out.new }
-    ensures gained { OnOk result (Put (O.stands out.old) (O.stands out.new) (codes "action " ++ (ref_text guard ++ codes " => "))) }
-    ensures rose { OnErr result (Rose (O.faults out.old) (O.faults out.new)) }
-    ensures begun { OnErr result (PutPart (O.stands out.old) (O.stands out.new) (codes "action " ++ (ref_text guard ++ codes " => "))) }
+    ensures { Puts O.stands O.faults result out.old out.new
+        (codes "action " ++ (ref_text guard ++ codes " => ")) }
 {
     put_pieces(
         out,
@@ -539,10 +423,8 @@ fn put_guard<O: Sink>(out: &mut O, guard: Ref) -> Result<(), Failed>
 }
 
 fn put_value<O: Sink>(out: &mut O, value: Ref) -> Result<(), Failed>
-    ensures never_falls { O.faults out.old ≤ O.faults out.new }
-    ensures gained { OnOk result (Put (O.stands out.old) (O.stands out.new) (codes " = " ++ (ref_text value ++ codes "\n"))) }
-    ensures rose { OnErr result (Rose (O.faults out.old) (O.faults out.new)) }
-    ensures begun { OnErr result (PutPart (O.stands out.old) (O.stands out.new) (codes " = " ++ (ref_text value ++ codes "\n"))) }
+    ensures { Puts O.stands O.faults result out.old out.new
+        (codes " = " ++ (ref_text value ++ codes "\n")) }
 {
     put_pieces(
         out,
@@ -551,10 +433,8 @@ fn put_value<O: Sink>(out: &mut O, value: Ref) -> Result<(), Failed>
 }
 
 fn put_target<O: Sink>(out: &mut O, action: &Action) -> Result<(), Failed>
-    ensures never_falls { O.faults out.old ≤ O.faults out.new }
-    ensures gained { OnOk result (Put (O.stands out.old) (O.stands out.new) (target_text action.now.delayed action.now)) }
-    ensures rose { OnErr result (Rose (O.faults out.old) (O.faults out.new)) }
-    ensures begun { OnErr result (PutPart (O.stands out.old) (O.stands out.new) (target_text action.now.delayed action.now)) }
+    ensures { Puts O.stands O.faults result out.old out.new
+        (target_text action.now.delayed action.now) }
 {
     if action.delayed {
         put_next(out, action)
@@ -564,10 +444,8 @@ fn put_target<O: Sink>(out: &mut O, action: &Action) -> Result<(), Failed>
 }
 
 fn put_next<O: Sink>(out: &mut O, action: &Action) -> Result<(), Failed>
-    ensures never_falls { O.faults out.old ≤ O.faults out.new }
-    ensures gained { OnOk result (Put (O.stands out.old) (O.stands out.new) ((codes "next(") ++ ((copy_text action.now) ++ (codes ")")))) }
-    ensures rose { OnErr result (Rose (O.faults out.old) (O.faults out.new)) }
-    ensures begun { OnErr result (PutPart (O.stands out.old) (O.stands out.new) ((codes "next(") ++ ((copy_text action.now) ++ (codes ")")))) }
+    ensures { Puts O.stands O.faults result out.old out.new
+        (codes "next(" ++ (copy_text action.now ++ codes ")")) }
 {
     put(out, b"next(")?;
     put_copy(out, action)?;
@@ -577,10 +455,7 @@ fn put_next<O: Sink>(out: &mut O, action: &Action) -> Result<(), Failed>
 
 // The variable's copy, and the element that is written.
 fn put_copy<O: Sink>(out: &mut O, action: &Action) -> Result<(), Failed>
-    ensures never_falls { O.faults out.old ≤ O.faults out.new }
-    ensures gained { OnOk result (Put (O.stands out.old) (O.stands out.new) (copy_text action.now)) }
-    ensures rose { OnErr result (Rose (O.faults out.old) (O.faults out.new)) }
-    ensures begun { OnErr result (PutPart (O.stands out.old) (O.stands out.new) (copy_text action.now)) }
+    ensures { Puts O.stands O.faults result out.old out.new (copy_text action.now) }
 {
     put_var(out, action.var)?;
     put_count(out, action.copy as u128)?;
@@ -589,20 +464,15 @@ fn put_copy<O: Sink>(out: &mut O, action: &Action) -> Result<(), Failed>
 }
 
 fn put_var<O: Sink>(out: &mut O, var: u32) -> Result<(), Failed>
-    ensures never_falls { O.faults out.old ≤ O.faults out.new }
-    ensures gained { OnOk result (Put (O.stands out.old) (O.stands out.new) (codes "v" ++ (decimal var ++ codes "."))) }
-    ensures rose { OnErr result (Rose (O.faults out.old) (O.faults out.new)) }
-    ensures begun { OnErr result (PutPart (O.stands out.old) (O.stands out.new) (codes "v" ++ (decimal var ++ codes "."))) }
+    ensures { Puts O.stands O.faults result out.old out.new
+        (codes "v" ++ (decimal var ++ codes ".")) }
 {
     let number = Piece::Count(var as u128);
     put_pieces(out, &[Piece::Bytes(b"v"), number, Piece::Bytes(b".")])
 }
 
 fn put_index<O: Sink>(out: &mut O, index: Option<Ref>) -> Result<(), Failed>
-    ensures never_falls { O.faults out.old ≤ O.faults out.new }
-    ensures gained { OnOk result (Put (O.stands out.old) (O.stands out.new) (index_text index)) }
-    ensures rose { OnErr result (Rose (O.faults out.old) (O.faults out.new)) }
-    ensures begun { OnErr result (PutPart (O.stands out.old) (O.stands out.new) (index_text index)) }
+    ensures { Puts O.stands O.faults result out.old out.new (index_text index) }
 {
     match index {
         None => Ok(()),
@@ -614,10 +484,7 @@ fn put_index<O: Sink>(out: &mut O, index: Option<Ref>) -> Result<(), Failed>
 }
 
 fn put_monitors<O: Sink>(out: &mut O, monitors: &[Monitor]) -> Result<(), Failed>
-    ensures never_falls { O.faults out.old ≤ O.faults out.new }
-    ensures gained { OnOk result (Put (O.stands out.old) (O.stands out.new) (texts monitor_line 0 monitors.now)) }
-    ensures rose { OnErr result (Rose (O.faults out.old) (O.faults out.new)) }
-    ensures begun { OnErr result (PutPart (O.stands out.old) (O.stands out.new) (texts monitor_line 0 monitors.now)) }
+    ensures { Puts O.stands O.faults result out.old out.new (texts monitor_line 0 monitors.now) }
 {
     for monitor in monitors {
         put_monitor(out, monitor)?;
@@ -626,10 +493,7 @@ fn put_monitors<O: Sink>(out: &mut O, monitors: &[Monitor]) -> Result<(), Failed
 }
 
 fn put_monitor<O: Sink>(out: &mut O, monitor: &Monitor) -> Result<(), Failed>
-    ensures never_falls { O.faults out.old ≤ O.faults out.new }
-    ensures gained { OnOk result (Put (O.stands out.old) (O.stands out.new) (monitor_line 0 monitor.now)) }
-    ensures rose { OnErr result (Rose (O.faults out.old) (O.faults out.new)) }
-    ensures begun { OnErr result (PutPart (O.stands out.old) (O.stands out.new) (monitor_line 0 monitor.now)) }
+    ensures { Puts O.stands O.faults result out.old out.new (monitor_line 0 monitor.now) }
 {
     put_pieces(
         out,

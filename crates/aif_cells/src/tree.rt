@@ -1,3 +1,5 @@
+//! The trees that cells compute.
+
 use crate::reference::Ref;
 
 /// An operator on one tree.
@@ -31,8 +33,9 @@ pub enum TreeTwo {
 
 /// What a cell computes.
 ///
-/// Two forms stand for chains that are as long as a variable has actions, so that nothing that walks
-/// a tree goes as deep: `Cases` is `ite(c1,a1,ite(c2,a2,..,b))` and `Any` is `or(a1,or(a2,..,b))`.
+/// Two forms stand for chains that are as long as a variable has actions, so that nothing that
+/// walks a tree goes as deep: `Cases` is `ite(c1,a1,ite(c2,a2,..,b))` and `Any` is
+/// `or(a1,or(a2,..,b))`.
 #[derive(Debug, Drop)]
 pub enum Tree {
     Value(Ref),

@@ -1,10 +1,10 @@
-#![tactic(auto, using(crate::proofs::PutLemmas::part_first, crate::proofs::PutLemmas::part_later))]
+//! The text of a tree.
 
-ghost use Rattle.std.specs.Prelude.{◌≡◌, ◌≤◌, ◌++◌, codes, decimal, length, map, OnOk, OnErr};
-ghost use Rattle.outside.specs.Bytes.{Rose};
-ghost use Rattle.aif_cells.specs.Tree.{any, cases, tree, trees};
-ghost use Rattle.aif_cells.specs.Text.{case_text, first_text, next_text, one_name, ref_text, texts, tree_text, trees_text, two_name};
-ghost use Rattle.aif_cells.specs.Put.{Put, PutPart, alternative_text, arm_text, closes, item_text};
+ghost use Rattle.std.specs.Prelude.{◌≡◌, ◌++◌, codes, decimal, map};
+ghost use Rattle.outside.specs.Puts.{Puts};
+ghost use Rattle.aif_cells.specs.Tree.{tree, trees};
+ghost use Rattle.aif_cells.specs.Text.{one_name, ref_text, texts, tree_text, trees_text, two_name};
+ghost use Rattle.aif_cells.specs.Put.{alternative_text, arm_text, closes, item_text};
 
 use crate::piece::{Piece, put, put_pieces, put_reference};
 use crate::reference::Ref;
@@ -47,10 +47,7 @@ fn name_of_two(op: TreeTwo) -> &'static [u8]
 /// Puts a tree.
 #[cycle(put_tree)]
 pub(crate) fn put_tree<O: Sink>(out: &mut O, t: &Tree) -> Result<(), Failed>
-    ensures never_falls { O.faults out.old ≤ O.faults out.new }
-    ensures gained { OnOk result (Put (O.stands out.old) (O.stands out.new) (tree_text (tree t.now))) }
-    ensures rose { OnErr result (Rose (O.faults out.old) (O.faults out.new)) }
-    ensures begun { OnErr result (PutPart (O.stands out.old) (O.stands out.new) (tree_text (tree t.now))) }
+    ensures { Puts O.stands O.faults result out.old out.new (tree_text (tree t.now)) }
 {
     match t {
         Tree::Value(reference) => put_reference(out, *reference),
@@ -96,10 +93,8 @@ pub(crate) fn put_tree<O: Sink>(out: &mut O, t: &Tree) -> Result<(), Failed>
 
 #[cycle(put_tree)]
 fn put_one<O: Sink>(out: &mut O, op: TreeOne, part: &Tree) -> Result<(), Failed>
-    ensures never_falls { O.faults out.old ≤ O.faults out.new }
-    ensures gained { OnOk result (Put (O.stands out.old) (O.stands out.new) ((one_name op) ++ (tree_text (tree part.now) ++ codes ")"))) }
-    ensures rose { OnErr result (Rose (O.faults out.old) (O.faults out.new)) }
-    ensures begun { OnErr result (PutPart (O.stands out.old) (O.stands out.new) ((one_name op) ++ (tree_text (tree part.now) ++ codes ")"))) }
+    ensures { Puts O.stands O.faults result out.old out.new
+        (one_name op ++ (tree_text (tree part.now) ++ codes ")")) }
 {
     put_one_name(out, op)?;
     put_behind(out, part, b")")?;
@@ -108,10 +103,8 @@ fn put_one<O: Sink>(out: &mut O, op: TreeOne, part: &Tree) -> Result<(), Failed>
 
 #[cycle(put_tree)]
 fn put_left<O: Sink>(out: &mut O, op: TreeTwo, left: &Tree) -> Result<(), Failed>
-    ensures never_falls { O.faults out.old ≤ O.faults out.new }
-    ensures gained { OnOk result (Put (O.stands out.old) (O.stands out.new) ((two_name op) ++ (tree_text (tree left.now) ++ codes ","))) }
-    ensures rose { OnErr result (Rose (O.faults out.old) (O.faults out.new)) }
-    ensures begun { OnErr result (PutPart (O.stands out.old) (O.stands out.new) ((two_name op) ++ (tree_text (tree left.now) ++ codes ","))) }
+    ensures { Puts O.stands O.faults result out.old out.new
+        (two_name op ++ (tree_text (tree left.now) ++ codes ",")) }
 {
     put_two_name(out, op)?;
     put_behind(out, left, b",")?;
@@ -120,20 +113,16 @@ fn put_left<O: Sink>(out: &mut O, op: TreeTwo, left: &Tree) -> Result<(), Failed
 
 #[cycle(put_tree)]
 fn put_right<O: Sink>(out: &mut O, right: &Tree) -> Result<(), Failed>
-    ensures never_falls { O.faults out.old ≤ O.faults out.new }
-    ensures gained { OnOk result (Put (O.stands out.old) (O.stands out.new) (tree_text (tree right.now) ++ codes ")")) }
-    ensures rose { OnErr result (Rose (O.faults out.old) (O.faults out.new)) }
-    ensures begun { OnErr result (PutPart (O.stands out.old) (O.stands out.new) (tree_text (tree right.now) ++ codes ")")) }
+    ensures { Puts O.stands O.faults result out.old out.new
+        (tree_text (tree right.now) ++ codes ")") }
 {
     put_behind(out, right, b")")
 }
 
 #[cycle(put_tree)]
 fn put_cond<O: Sink>(out: &mut O, cond: &Tree) -> Result<(), Failed>
-    ensures never_falls { O.faults out.old ≤ O.faults out.new }
-    ensures gained { OnOk result (Put (O.stands out.old) (O.stands out.new) ((codes "ite(") ++ (tree_text (tree cond.now) ++ codes ","))) }
-    ensures rose { OnErr result (Rose (O.faults out.old) (O.faults out.new)) }
-    ensures begun { OnErr result (PutPart (O.stands out.old) (O.stands out.new) ((codes "ite(") ++ (tree_text (tree cond.now) ++ codes ","))) }
+    ensures { Puts O.stands O.faults result out.old out.new
+        (codes "ite(" ++ (tree_text (tree cond.now) ++ codes ",")) }
 {
     put(out, b"ite(")?;
     put_behind(out, cond, b",")?;
@@ -142,30 +131,23 @@ fn put_cond<O: Sink>(out: &mut O, cond: &Tree) -> Result<(), Failed>
 
 #[cycle(put_tree)]
 fn put_yes<O: Sink>(out: &mut O, yes: &Tree) -> Result<(), Failed>
-    ensures never_falls { O.faults out.old ≤ O.faults out.new }
-    ensures gained { OnOk result (Put (O.stands out.old) (O.stands out.new) (tree_text (tree yes.now) ++ codes ",")) }
-    ensures rose { OnErr result (Rose (O.faults out.old) (O.faults out.new)) }
-    ensures begun { OnErr result (PutPart (O.stands out.old) (O.stands out.new) (tree_text (tree yes.now) ++ codes ",")) }
+    ensures { Puts O.stands O.faults result out.old out.new
+        (tree_text (tree yes.now) ++ codes ",") }
 {
     put_behind(out, yes, b",")
 }
 
 #[cycle(put_tree)]
 fn put_no<O: Sink>(out: &mut O, no: &Tree) -> Result<(), Failed>
-    ensures never_falls { O.faults out.old ≤ O.faults out.new }
-    ensures gained { OnOk result (Put (O.stands out.old) (O.stands out.new) (tree_text (tree no.now) ++ codes ")")) }
-    ensures rose { OnErr result (Rose (O.faults out.old) (O.faults out.new)) }
-    ensures begun { OnErr result (PutPart (O.stands out.old) (O.stands out.new) (tree_text (tree no.now) ++ codes ")")) }
+    ensures { Puts O.stands O.faults result out.old out.new (tree_text (tree no.now) ++ codes ")") }
 {
     put_behind(out, no, b")")
 }
 
 #[cycle(put_tree)]
 fn put_index<O: Sink>(out: &mut O, index: &Tree) -> Result<(), Failed>
-    ensures never_falls { O.faults out.old ≤ O.faults out.new }
-    ensures gained { OnOk result (Put (O.stands out.old) (O.stands out.new) ((codes "sel(") ++ (tree_text (tree index.now)))) }
-    ensures rose { OnErr result (Rose (O.faults out.old) (O.faults out.new)) }
-    ensures begun { OnErr result (PutPart (O.stands out.old) (O.stands out.new) ((codes "sel(") ++ (tree_text (tree index.now)))) }
+    ensures { Puts O.stands O.faults result out.old out.new
+        (codes "sel(" ++ tree_text (tree index.now)) }
 {
     put(out, b"sel(")?;
     put_tree(out, index)?;
@@ -174,10 +156,8 @@ fn put_index<O: Sink>(out: &mut O, index: &Tree) -> Result<(), Failed>
 
 #[cycle(put_tree)]
 fn put_high<O: Sink>(out: &mut O, high: &Tree) -> Result<(), Failed>
-    ensures never_falls { O.faults out.old ≤ O.faults out.new }
-    ensures gained { OnOk result (Put (O.stands out.old) (O.stands out.new) ((codes "cat(") ++ (tree_text (tree high.now) ++ codes ","))) }
-    ensures rose { OnErr result (Rose (O.faults out.old) (O.faults out.new)) }
-    ensures begun { OnErr result (PutPart (O.stands out.old) (O.stands out.new) ((codes "cat(") ++ (tree_text (tree high.now) ++ codes ","))) }
+    ensures { Puts O.stands O.faults result out.old out.new
+        (codes "cat(" ++ (tree_text (tree high.now) ++ codes ",")) }
 {
     put(out, b"cat(")?;
     put_behind(out, high, b",")?;
@@ -186,10 +166,8 @@ fn put_high<O: Sink>(out: &mut O, high: &Tree) -> Result<(), Failed>
 
 #[cycle(put_tree)]
 fn put_low<O: Sink>(out: &mut O, low: &Tree, width: u32) -> Result<(), Failed>
-    ensures never_falls { O.faults out.old ≤ O.faults out.new }
-    ensures gained { OnOk result (Put (O.stands out.old) (O.stands out.new) ((tree_text (tree low.now)) ++ (codes "," ++ (decimal width ++ codes ")")))) }
-    ensures rose { OnErr result (Rose (O.faults out.old) (O.faults out.new)) }
-    ensures begun { OnErr result (PutPart (O.stands out.old) (O.stands out.new) ((tree_text (tree low.now)) ++ (codes "," ++ (decimal width ++ codes ")")))) }
+    ensures { Puts O.stands O.faults result out.old out.new
+        (tree_text (tree low.now) ++ (codes "," ++ (decimal width ++ codes ")"))) }
 {
     put_tree(out, low)?;
     put_width(out, width)?;
@@ -198,10 +176,8 @@ fn put_low<O: Sink>(out: &mut O, low: &Tree, width: u32) -> Result<(), Failed>
 
 #[cycle(put_tree)]
 fn put_otherwise<O: Sink>(out: &mut O, last: &Tree, count: usize) -> Result<(), Failed>
-    ensures never_falls { O.faults out.old ≤ O.faults out.new }
-    ensures gained { OnOk result (Put (O.stands out.old) (O.stands out.new) ((tree_text (tree last.now)) ++ (closes count))) }
-    ensures rose { OnErr result (Rose (O.faults out.old) (O.faults out.new)) }
-    ensures begun { OnErr result (PutPart (O.stands out.old) (O.stands out.new) ((tree_text (tree last.now)) ++ (closes count))) }
+    ensures { Puts O.stands O.faults result out.old out.new
+        (tree_text (tree last.now) ++ closes count) }
 {
     put_tree(out, last)?;
     put_closes(out, count)?;
@@ -210,10 +186,8 @@ fn put_otherwise<O: Sink>(out: &mut O, last: &Tree, count: usize) -> Result<(), 
 
 #[cycle(put_tree)]
 fn put_last<O: Sink>(out: &mut O, last: &Tree, count: usize) -> Result<(), Failed>
-    ensures never_falls { O.faults out.old ≤ O.faults out.new }
-    ensures gained { OnOk result (Put (O.stands out.old) (O.stands out.new) (tree_text (tree last.now) ++ closes count)) }
-    ensures rose { OnErr result (Rose (O.faults out.old) (O.faults out.new)) }
-    ensures begun { OnErr result (PutPart (O.stands out.old) (O.stands out.new) (tree_text (tree last.now) ++ closes count)) }
+    ensures { Puts O.stands O.faults result out.old out.new
+        (tree_text (tree last.now) ++ closes count) }
 {
     put_otherwise(out, last, count)
 }
@@ -226,10 +200,9 @@ fn put_with_numbers<O: Sink>(
     first: Ref,
     second: Ref,
 ) -> Result<(), Failed>
-    ensures never_falls { O.faults out.old ≤ O.faults out.new }
-    ensures gained { OnOk result (Put (O.stands out.old) (O.stands out.new) ((name.now) ++ ((tree_text (tree part.now)) ++ (codes "," ++ (ref_text first ++ (codes "," ++ (ref_text second ++ codes ")"))))))) }
-    ensures rose { OnErr result (Rose (O.faults out.old) (O.faults out.new)) }
-    ensures begun { OnErr result (PutPart (O.stands out.old) (O.stands out.new) ((name.now) ++ ((tree_text (tree part.now)) ++ (codes "," ++ (ref_text first ++ (codes "," ++ (ref_text second ++ codes ")"))))))) }
+    ensures { Puts O.stands O.faults result out.old out.new
+        (name.now ++ (tree_text (tree part.now)
+        ++ (codes "," ++ (ref_text first ++ (codes "," ++ (ref_text second ++ codes ")")))))) }
 {
     put(out, name)?;
     put_tree(out, part)?;
@@ -239,10 +212,9 @@ fn put_with_numbers<O: Sink>(
 
 #[cycle(put_tree)]
 fn put_slice<O: Sink>(out: &mut O, part: &Tree, first: u32, second: u32) -> Result<(), Failed>
-    ensures never_falls { O.faults out.old ≤ O.faults out.new }
-    ensures gained { OnOk result (Put (O.stands out.old) (O.stands out.new) ((codes "bits(") ++ ((tree_text (tree part.now)) ++ (codes "," ++ (decimal first ++ (codes "," ++ (decimal second ++ codes ")"))))))) }
-    ensures rose { OnErr result (Rose (O.faults out.old) (O.faults out.new)) }
-    ensures begun { OnErr result (PutPart (O.stands out.old) (O.stands out.new) ((codes "bits(") ++ ((tree_text (tree part.now)) ++ (codes "," ++ (decimal first ++ (codes "," ++ (decimal second ++ codes ")"))))))) }
+    ensures { Puts O.stands O.faults result out.old out.new
+        (codes "bits(" ++ (tree_text (tree part.now)
+        ++ (codes "," ++ (decimal first ++ (codes "," ++ (decimal second ++ codes ")")))))) }
 {
     put(out, b"bits(")?;
     put_tree(out, part)?;
@@ -252,10 +224,8 @@ fn put_slice<O: Sink>(out: &mut O, part: &Tree, first: u32, second: u32) -> Resu
 
 #[cycle(put_tree)]
 fn put_with_width<O: Sink>(out: &mut O, name: &[u8], part: &Tree, width: u32) -> Result<(), Failed>
-    ensures never_falls { O.faults out.old ≤ O.faults out.new }
-    ensures gained { OnOk result (Put (O.stands out.old) (O.stands out.new) ((name.now) ++ ((tree_text (tree part.now)) ++ (codes "," ++ (decimal width ++ codes ")"))))) }
-    ensures rose { OnErr result (Rose (O.faults out.old) (O.faults out.new)) }
-    ensures begun { OnErr result (PutPart (O.stands out.old) (O.stands out.new) ((name.now) ++ ((tree_text (tree part.now)) ++ (codes "," ++ (decimal width ++ codes ")"))))) }
+    ensures { Puts O.stands O.faults result out.old out.new
+        (name.now ++ (tree_text (tree part.now) ++ (codes "," ++ (decimal width ++ codes ")")))) }
 {
     put(out, name)?;
     put_tree(out, part)?;
@@ -266,10 +236,7 @@ fn put_with_width<O: Sink>(out: &mut O, name: &[u8], part: &Tree, width: u32) ->
 // A tree, and bytes behind it.
 #[cycle(put_tree)]
 fn put_behind<O: Sink>(out: &mut O, t: &Tree, bytes: &[u8]) -> Result<(), Failed>
-    ensures never_falls { O.faults out.old ≤ O.faults out.new }
-    ensures gained { OnOk result (Put (O.stands out.old) (O.stands out.new) ((tree_text (tree t.now)) ++ (bytes.now))) }
-    ensures rose { OnErr result (Rose (O.faults out.old) (O.faults out.new)) }
-    ensures begun { OnErr result (PutPart (O.stands out.old) (O.stands out.new) ((tree_text (tree t.now)) ++ (bytes.now))) }
+    ensures { Puts O.stands O.faults result out.old out.new (tree_text (tree t.now) ++ bytes.now) }
 {
     put_tree(out, t)?;
     put(out, bytes)?;
@@ -278,10 +245,8 @@ fn put_behind<O: Sink>(out: &mut O, t: &Tree, bytes: &[u8]) -> Result<(), Failed
 
 #[cycle(put_tree)]
 fn put_list<O: Sink>(out: &mut O, items: &[Tree]) -> Result<(), Failed>
-    ensures never_falls { O.faults out.old ≤ O.faults out.new }
-    ensures gained { OnOk result (Put (O.stands out.old) (O.stands out.new) ((trees_text (trees (map tree items.now))) ++ (codes ")"))) }
-    ensures rose { OnErr result (Rose (O.faults out.old) (O.faults out.new)) }
-    ensures begun { OnErr result (PutPart (O.stands out.old) (O.stands out.new) ((trees_text (trees (map tree items.now))) ++ (codes ")"))) }
+    ensures { Puts O.stands O.faults result out.old out.new
+        (trees_text (trees (map tree items.now)) ++ codes ")") }
 {
     put_listed(out, items)?;
     put(out, b")")?;
@@ -290,10 +255,8 @@ fn put_list<O: Sink>(out: &mut O, items: &[Tree]) -> Result<(), Failed>
 
 #[cycle(put_tree)]
 fn put_listed<O: Sink>(out: &mut O, items: &[Tree]) -> Result<(), Failed>
-    ensures never_falls { O.faults out.old ≤ O.faults out.new }
-    ensures gained { OnOk result (Put (O.stands out.old) (O.stands out.new) (trees_text (trees (map tree items.now)))) }
-    ensures rose { OnErr result (Rose (O.faults out.old) (O.faults out.new)) }
-    ensures begun { OnErr result (PutPart (O.stands out.old) (O.stands out.new) (trees_text (trees (map tree items.now)))) }
+    ensures { Puts O.stands O.faults result out.old out.new
+        (trees_text (trees (map tree items.now))) }
 {
     put_items(out, items)?;
     Ok(())
@@ -302,10 +265,7 @@ fn put_listed<O: Sink>(out: &mut O, items: &[Tree]) -> Result<(), Failed>
 // Trees, each behind a comma.
 #[cycle(put_tree)]
 fn put_items<O: Sink>(out: &mut O, items: &[Tree]) -> Result<(), Failed>
-    ensures never_falls { O.faults out.old ≤ O.faults out.new }
-    ensures gained { OnOk result (Put (O.stands out.old) (O.stands out.new) (texts item_text 0 items.now)) }
-    ensures rose { OnErr result (Rose (O.faults out.old) (O.faults out.new)) }
-    ensures begun { OnErr result (PutPart (O.stands out.old) (O.stands out.new) (texts item_text 0 items.now)) }
+    ensures { Puts O.stands O.faults result out.old out.new (texts item_text 0 items.now) }
 {
     for item in items {
         put_next(out, item)?;
@@ -315,10 +275,7 @@ fn put_items<O: Sink>(out: &mut O, items: &[Tree]) -> Result<(), Failed>
 
 #[cycle(put_tree)]
 fn put_next<O: Sink>(out: &mut O, t: &Tree) -> Result<(), Failed>
-    ensures never_falls { O.faults out.old ≤ O.faults out.new }
-    ensures gained { OnOk result (Put (O.stands out.old) (O.stands out.new) ((codes ",") ++ (tree_text (tree t.now)))) }
-    ensures rose { OnErr result (Rose (O.faults out.old) (O.faults out.new)) }
-    ensures begun { OnErr result (PutPart (O.stands out.old) (O.stands out.new) ((codes ",") ++ (tree_text (tree t.now)))) }
+    ensures { Puts O.stands O.faults result out.old out.new (codes "," ++ tree_text (tree t.now)) }
 {
     put(out, b",")?;
     put_tree(out, t)?;
@@ -328,10 +285,7 @@ fn put_next<O: Sink>(out: &mut O, t: &Tree) -> Result<(), Failed>
 // What stands before the last tree of a chain of choices.
 #[cycle(put_tree)]
 fn put_arms<O: Sink>(out: &mut O, arms: &[(Tree, Tree)]) -> Result<(), Failed>
-    ensures never_falls { O.faults out.old ≤ O.faults out.new }
-    ensures gained { OnOk result (Put (O.stands out.old) (O.stands out.new) (texts arm_text 0 arms.now)) }
-    ensures rose { OnErr result (Rose (O.faults out.old) (O.faults out.new)) }
-    ensures begun { OnErr result (PutPart (O.stands out.old) (O.stands out.new) (texts arm_text 0 arms.now)) }
+    ensures { Puts O.stands O.faults result out.old out.new (texts arm_text 0 arms.now) }
 {
     for (cond, value) in arms {
         put_cond(out, cond)?;
@@ -343,10 +297,7 @@ fn put_arms<O: Sink>(out: &mut O, arms: &[(Tree, Tree)]) -> Result<(), Failed>
 // What stands before the last tree of a chain of alternatives.
 #[cycle(put_tree)]
 fn put_firsts<O: Sink>(out: &mut O, items: &[Tree]) -> Result<(), Failed>
-    ensures never_falls { O.faults out.old ≤ O.faults out.new }
-    ensures gained { OnOk result (Put (O.stands out.old) (O.stands out.new) (texts alternative_text 0 items.now)) }
-    ensures rose { OnErr result (Rose (O.faults out.old) (O.faults out.new)) }
-    ensures begun { OnErr result (PutPart (O.stands out.old) (O.stands out.new) (texts alternative_text 0 items.now)) }
+    ensures { Puts O.stands O.faults result out.old out.new (texts alternative_text 0 items.now) }
 {
     for item in items {
         put_first(out, item)?;
@@ -356,10 +307,8 @@ fn put_firsts<O: Sink>(out: &mut O, items: &[Tree]) -> Result<(), Failed>
 
 #[cycle(put_tree)]
 fn put_first<O: Sink>(out: &mut O, t: &Tree) -> Result<(), Failed>
-    ensures never_falls { O.faults out.old ≤ O.faults out.new }
-    ensures gained { OnOk result (Put (O.stands out.old) (O.stands out.new) ((codes "or(") ++ (tree_text (tree t.now) ++ codes ","))) }
-    ensures rose { OnErr result (Rose (O.faults out.old) (O.faults out.new)) }
-    ensures begun { OnErr result (PutPart (O.stands out.old) (O.stands out.new) ((codes "or(") ++ (tree_text (tree t.now) ++ codes ","))) }
+    ensures { Puts O.stands O.faults result out.old out.new
+        (codes "or(" ++ (tree_text (tree t.now) ++ codes ",")) }
 {
     put(out, b"or(")?;
     put_behind(out, t, b",")?;
@@ -367,38 +316,28 @@ fn put_first<O: Sink>(out: &mut O, t: &Tree) -> Result<(), Failed>
 }
 
 fn put_one_name<O: Sink>(out: &mut O, op: TreeOne) -> Result<(), Failed>
-    ensures never_falls { O.faults out.old ≤ O.faults out.new }
-    ensures gained { OnOk result (Put (O.stands out.old) (O.stands out.new) (one_name op)) }
-    ensures rose { OnErr result (Rose (O.faults out.old) (O.faults out.new)) }
-    ensures begun { OnErr result (PutPart (O.stands out.old) (O.stands out.new) (one_name op)) }
+    ensures { Puts O.stands O.faults result out.old out.new (one_name op) }
 {
     put(out, name_of_one(op))
 }
 
 fn put_two_name<O: Sink>(out: &mut O, op: TreeTwo) -> Result<(), Failed>
-    ensures never_falls { O.faults out.old ≤ O.faults out.new }
-    ensures gained { OnOk result (Put (O.stands out.old) (O.stands out.new) (two_name op)) }
-    ensures rose { OnErr result (Rose (O.faults out.old) (O.faults out.new)) }
-    ensures begun { OnErr result (PutPart (O.stands out.old) (O.stands out.new) (two_name op)) }
+    ensures { Puts O.stands O.faults result out.old out.new (two_name op) }
 {
     put(out, name_of_two(op))
 }
 
 fn put_width<O: Sink>(out: &mut O, width: u32) -> Result<(), Failed>
-    ensures never_falls { O.faults out.old ≤ O.faults out.new }
-    ensures gained { OnOk result (Put (O.stands out.old) (O.stands out.new) (codes "," ++ (decimal width ++ codes ")"))) }
-    ensures rose { OnErr result (Rose (O.faults out.old) (O.faults out.new)) }
-    ensures begun { OnErr result (PutPart (O.stands out.old) (O.stands out.new) (codes "," ++ (decimal width ++ codes ")"))) }
+    ensures { Puts O.stands O.faults result out.old out.new
+        (codes "," ++ (decimal width ++ codes ")")) }
 {
     let width = Piece::Count(width as u128);
     put_pieces(out, &[Piece::Bytes(b","), width, Piece::Bytes(b")")])
 }
 
 fn put_two_counts<O: Sink>(out: &mut O, first: u32, second: u32) -> Result<(), Failed>
-    ensures never_falls { O.faults out.old ≤ O.faults out.new }
-    ensures gained { OnOk result (Put (O.stands out.old) (O.stands out.new) (codes "," ++ (decimal first ++ (codes "," ++ (decimal second ++ codes ")"))))) }
-    ensures rose { OnErr result (Rose (O.faults out.old) (O.faults out.new)) }
-    ensures begun { OnErr result (PutPart (O.stands out.old) (O.stands out.new) (codes "," ++ (decimal first ++ (codes "," ++ (decimal second ++ codes ")"))))) }
+    ensures { Puts O.stands O.faults result out.old out.new
+        (codes "," ++ (decimal first ++ (codes "," ++ (decimal second ++ codes ")")))) }
 {
     let comma = Piece::Bytes(b",");
     let first = Piece::Count(first as u128);
@@ -407,10 +346,8 @@ fn put_two_counts<O: Sink>(out: &mut O, first: u32, second: u32) -> Result<(), F
 }
 
 fn put_two_numbers<O: Sink>(out: &mut O, first: Ref, second: Ref) -> Result<(), Failed>
-    ensures never_falls { O.faults out.old ≤ O.faults out.new }
-    ensures gained { OnOk result (Put (O.stands out.old) (O.stands out.new) (codes "," ++ (ref_text first ++ (codes "," ++ (ref_text second ++ codes ")"))))) }
-    ensures rose { OnErr result (Rose (O.faults out.old) (O.faults out.new)) }
-    ensures begun { OnErr result (PutPart (O.stands out.old) (O.stands out.new) (codes "," ++ (ref_text first ++ (codes "," ++ (ref_text second ++ codes ")"))))) }
+    ensures { Puts O.stands O.faults result out.old out.new
+        (codes "," ++ (ref_text first ++ (codes "," ++ (ref_text second ++ codes ")")))) }
 {
     let comma = Piece::Bytes(b",");
     let first = Piece::Of(first);
@@ -420,10 +357,7 @@ fn put_two_numbers<O: Sink>(out: &mut O, first: Ref, second: Ref) -> Result<(), 
 
 // So many closing parentheses.
 fn put_closes<O: Sink>(out: &mut O, count: usize) -> Result<(), Failed>
-    ensures never_falls { O.faults out.old ≤ O.faults out.new }
-    ensures gained { OnOk result (Put (O.stands out.old) (O.stands out.new) (closes count)) }
-    ensures rose { OnErr result (Rose (O.faults out.old) (O.faults out.new)) }
-    ensures begun { OnErr result (PutPart (O.stands out.old) (O.stands out.new) (closes count)) }
+    ensures { Puts O.stands O.faults result out.old out.new (closes count) }
 {
     for _at in 0..count {
         put(out, b")")?;

@@ -1,3 +1,5 @@
+//! The value of a tree.
+
 ghost use Rattle.std.specs.Prelude.{◌≡◌, ◌+◌, ◌/◌, ◌%◌, ◌^◌, ◌||◌, map, pos, if◌then◌else◌};
 ghost use Rattle.quartz_expr.specs.Values.{element_at, of_bool};
 ghost use Rattle.aif_cells.specs.Tree.{tree};
@@ -6,8 +8,8 @@ ghost use Rattle.aif_cells.specs.Worth.{apply_one, apply_two, bits_between, case
 use crate::reference::Ref;
 use crate::tree::{Tree, TreeOne, TreeTwo};
 
-/// The value of a tree under values of the input elements, registers and cells, which stand in three
-/// lists by number. What a list lacks is 0.
+/// The value of a tree under values of the input elements, registers and cells, which stand in
+/// three lists by number. What a list lacks is 0.
 #[cycle(worth)]
 pub fn worth_of(t: &Tree, inputs: &[i64], registers: &[i64], cells: &[i64]) -> i64
     ensures { result ≡ worth (listed inputs.now registers.now cells.now) (tree t.now) }
@@ -28,7 +30,7 @@ pub fn worth_of(t: &Tree, inputs: &[i64], registers: &[i64], cells: &[i64]) -> i
         }
         Tree::Sel(index, items) => {
             let index = worth_of(index, inputs, registers, cells);
-            selected(index, items, inputs, registers, cells)
+            select(index, items, inputs, registers, cells)
         }
         Tree::Fit(part, low, high) => fit(*low, *high, worth_of(part, inputs, registers, cells)),
         Tree::Bnot(part, width) => flip(*width, worth_of(part, inputs, registers, cells)),
@@ -51,8 +53,9 @@ pub fn worth_of(t: &Tree, inputs: &[i64], registers: &[i64], cells: &[i64]) -> i
 
 // The value of the selected tree, or 0 where there is none.
 #[cycle(worth)]
-fn selected(index: i64, items: &[Tree], inputs: &[i64], registers: &[i64], cells: &[i64]) -> i64
-    ensures { result ≡ element_at (map (λ t. worth (listed inputs.now registers.now cells.now) (tree t)) items.now) index }
+fn select(index: i64, items: &[Tree], inputs: &[i64], registers: &[i64], cells: &[i64]) -> i64
+    ensures { result ≡ element_at
+        (map (λ t. worth (listed inputs.now registers.now cells.now) (tree t)) items.now) index }
 {
     if index < 0 {
         return 0;
@@ -71,7 +74,8 @@ fn first_case(
     registers: &[i64],
     cells: &[i64],
 ) -> Option<i64>
-    ensures { result ≡ case_worth (listed inputs.now registers.now cells.now) (map (λ a. (tree a.0, tree a.1)) arms.now) }
+    ensures { result ≡ case_worth (listed inputs.now registers.now cells.now)
+        (map (λ a. (tree a.0, tree a.1)) arms.now) }
 {
     for (cond, value) in arms {
         if worth_of(cond, inputs, registers, cells) != 0 {

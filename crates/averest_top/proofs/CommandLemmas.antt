@@ -1,8 +1,8 @@
 -- What holds of a command's task holds of the task that is meant.
 use Rattle.std.proofs.Common.{◌≡◌, ℕ, List, Some, None, refl, sym, ap, subst, ◌∙◌}
 use Rattle.std.specs.Prelude.{Option, unwrap_or, option_map, option_and_then}
-use Rattle.outside.specs.declared.words.Command.{Command}
-use Rattle.outside.specs.Words.{meant}
+use Rattle.command_words.specs.declared.command.Command.{Command}
+use Rattle.command_words.specs.Words.{meant}
 use Rattle.averest_top.specs.declared.task.Task.{Task}
 use Rattle.averest_top.specs.Commands.{asked_in, calls_asked, calls_of, module_in, task_in, task_meant}
 

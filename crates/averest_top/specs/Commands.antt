@@ -3,9 +3,9 @@ use Rattle.std.specs.Prelude.{ℕ, Bool, true, false, List, Option, Some, None, 
 use Rattle.quartz_lexer.specs.Lexing.{origin}
 use Rattle.outside.specs.declared.status.Status.{Status}
 use Rattle.outside.specs.declared.status.Status.TheVariants.{Refused}
-use Rattle.outside.specs.declared.words.Command.{Command}
-use Rattle.outside.specs.declared.words.Command.TheVariants.{Run, Check, Aif, Plan, Load, Convert, Verify}
-use Rattle.outside.specs.Words.{meant}
+use Rattle.command_words.specs.declared.command.Command.{Command}
+use Rattle.command_words.specs.declared.command.Command.TheVariants.{Run, Check, Aif, Plan, Load, Convert, Verify}
+use Rattle.command_words.specs.Words.{meant}
 use Rattle.cell_run.specs.Told.{calls_of_run}
 use Rattle.averest_top.specs.declared.task.Task.{Task}
 use Rattle.averest_top.specs.declared.task.Task.TheVariants as task

@@ -1,3 +1,5 @@
+//! What each command does with a module that was built.
+
 ghost use Rattle.std.specs.Prelude.{◌≡◌, ◌≤◌, ◌⊎◌, false, length};
 ghost use Rattle.quartz_tree.specs.Kernel.{Kernel};
 ghost use Rattle.quartz_tree.specs.Surfaces.{ModuleTree};
@@ -37,12 +39,16 @@ fn run_built<S: Source, O: Sink>(
     ensures out_counts { O.faults out.old ≤ O.faults out.new }
     ensures asked { CalledAtMost (calls_of_run most_steps) (S.calls input.old) (S.calls input.new) }
     ensures of_task { IsOfTask result }
-    ensures read_fault { result ≡ Status.ReadFault → Rose (S.faults input.old) (S.faults input.new) }
+    ensures read_fault { result ≡ Status.ReadFault
+        → Rose (S.faults input.old) (S.faults input.new) }
     ensures write_fault { result ≡ Status.WriteFault → Rose (O.faults out.old) (O.faults out.new) }
     ensures untouched { result ≡ Status.NoMemory → (input.new ≡ input.old) × (out.new ≡ out.old) }
     ensures done { (vs : Vars) (body : Kernel) → Executes vs body built.now.aif →
-        (result ≡ Status.NoMemory) ⊎ RunsAs vs body most_steps (S.left input.old) (S.left input.new) (O.stands out.old) (O.stands out.new)
-        (Rose (S.faults input.old) (S.faults input.new)) (Rose (O.faults out.old) (O.faults out.new)) result }
+        (result ≡ Status.NoMemory)
+        ⊎ RunsAs vs body most_steps (S.left input.old) (S.left input.new) (O.stands out.old)
+        (O.stands out.new)
+        (Rose (S.faults input.old) (S.faults input.new))
+        (Rose (O.faults out.old) (O.faults out.new)) result }
 {
     match run_cells(alloc, &built.aif, &built.order, most_steps, input, out) {
         Ok(status) => status,
@@ -63,7 +69,9 @@ fn count_loose(pairs: &Option<Pairs>) -> u64
 fn check_built<O: Sink>(built: &Built, out: &mut O) -> Status
     ensures out_counts { O.faults out.old ≤ O.faults out.new }
     ensures ends { (result ≡ Status.Ok) ⊎ (result ≡ Status.WriteFault) }
-    ensures written { IsWritten (accepted_text (length built.now.aif.cells) (length built.now.aif.registers) (loose_in built.now.pairs))
+    ensures written { IsWritten
+        (accepted_text (length built.now.aif.cells) (length built.now.aif.registers)
+        (loose_in built.now.pairs))
         (O.stands out.old) (O.stands out.new) (Rose (O.faults out.old) (O.faults out.new)) result }
 {
     let cells = built.aif.cells.len() as u64;
@@ -79,7 +87,8 @@ fn write_built<O: Sink>(built: &Built, out: &mut O) -> Status
     requires ready { IsReady built.now }
     ensures out_counts { O.faults out.old ≤ O.faults out.new }
     ensures ends { (result ≡ Status.Ok) ⊎ (result ≡ Status.WriteFault) }
-    ensures written { IsWritten (aif_text built.now.aif) (O.stands out.old) (O.stands out.new) (Rose (O.faults out.old) (O.faults out.new)) result }
+    ensures written { IsWritten (aif_text built.now.aif) (O.stands out.old) (O.stands out.new)
+        (Rose (O.faults out.old) (O.faults out.new)) result }
 {
     match write_text(&built.aif, out) {
         Ok(()) => Status::Ok,
@@ -96,7 +105,9 @@ fn load_built<O: Sink>(alloc: Global, built: &Built, seed: u64, steps: u32, out:
     ensures write_fault { result ≡ Status.WriteFault → Rose (O.faults out.old) (O.faults out.new) }
     ensures untouched { result ≡ Status.NoMemory → out.new ≡ out.old }
     ensures done { (vs : Vars) (body : Kernel) → Executes vs body built.now.aif →
-        (result ≡ Status.NoMemory) ⊎ Loaded vs body seed steps (O.stands out.old) (O.stands out.new) (Rose (O.faults out.old) (O.faults out.new)) result }
+        (result ≡ Status.NoMemory)
+        ⊎ Loaded vs body seed steps (O.stands out.old) (O.stands out.new)
+        (Rose (O.faults out.old) (O.faults out.new)) result }
 {
     match load_cells(alloc, &built.aif, &built.order, seed, steps, out) {
         Ok(status) => status,
@@ -119,12 +130,15 @@ pub(crate) fn do_task<S: Source, O: Sink>(
     ensures untaken { is_run task ≡ false → input.new ≡ input.old }
     ensures of_task { IsOfTask result }
     ensures ends { EndsAs task result }
-    ensures read_fault { result ≡ Status.ReadFault → Rose (S.faults input.old) (S.faults input.new) }
+    ensures read_fault { result ≡ Status.ReadFault
+        → Rose (S.faults input.old) (S.faults input.new) }
     ensures write_fault { result ≡ Status.WriteFault → Rose (O.faults out.old) (O.faults out.new) }
     ensures untouched { result ≡ Status.NoMemory → (input.new ≡ input.old) × (out.new ≡ out.old) }
     ensures done { (m : ModuleTree) → ArePartsOf (wants_pairs_in task) m built.now →
-        (result ≡ Status.NoMemory) ⊎ Does task m (S.left input.old) (S.left input.new) (O.stands out.old) (O.stands out.new)
-        (Rose (S.faults input.old) (S.faults input.new)) (Rose (O.faults out.old) (O.faults out.new)) result }
+        (result ≡ Status.NoMemory)
+        ⊎ Does task m (S.left input.old) (S.left input.new) (O.stands out.old) (O.stands out.new)
+        (Rose (S.faults input.old) (S.faults input.new))
+        (Rose (O.faults out.old) (O.faults out.new)) result }
 {
     match task {
         Task::Run { most_steps } => run_built(alloc, built, most_steps, input, out),

@@ -1,3 +1,5 @@
+//! A text on its way from the shelf to the module that is built of it.
+
 ghost use Rattle.std.specs.Prelude.{◌≡◌, ◌≢◌, ◌≤◌, ◌⊎◌, List, ℕ, false, IfOk, length};
 ghost use Rattle.outside.specs.Bytes.{Rose, Unfetched};
 ghost use Rattle.trace_io.specs.Held.{CalledAtMost};
@@ -36,13 +38,16 @@ fn do_text<S: Source, O: Sink>(
     ensures out_counts { O.faults out.old ≤ O.faults out.new }
     ensures asked { CalledAtMost (calls_of task) (S.calls input.old) (S.calls input.new) }
     ensures untaken { is_run task ≡ false → input.new ≡ input.old }
-    ensures read_fault { result ≡ Status.ReadFault → Rose (S.faults input.old) (S.faults input.new) }
+    ensures read_fault { result ≡ Status.ReadFault
+        → Rose (S.faults input.old) (S.faults input.new) }
     ensures write_fault { result ≡ Status.WriteFault → Rose (O.faults out.old) (O.faults out.new) }
     ensures possible { CanComeOf task result }
     ensures no_usage { result ≢ Status.Usage }
     ensures available { result ≢ Status.ModuleUnavailable }
     ensures untouched { ComesBefore result → (input.new ≡ input.old) × (out.new ≡ out.old) }
-    ensures of_text { OfText text.now task (S.left input.old) (S.left input.new) (O.stands out.old) (O.stands out.new) ⊥ (Rose (S.faults input.old) (S.faults input.new)) (Rose (O.faults out.old) (O.faults out.new)) result }
+    ensures of_text { OfText text.now task (S.left input.old) (S.left input.new) (O.stands out.old)
+        (O.stands out.new) ⊥ (Rose (S.faults input.old) (S.faults input.new))
+        (Rose (O.faults out.old) (O.faults out.new)) result }
 {
     match build(alloc, text, task.wants_pairs(), task.is_strict()) {
         Ok(built) => do_task(alloc, task, &built, input, out),
@@ -73,16 +78,20 @@ fn do_fetched<F: Shelf, S: Source, O: Sink>(
     ensures out_counts { O.faults out.old ≤ O.faults out.new }
     ensures asked { CalledAtMost (calls_of task) (S.calls input.old) (S.calls input.new) }
     ensures untaken { is_run task ≡ false → input.new ≡ input.old }
-    ensures read_fault { result ≡ Status.ReadFault → Rose (S.faults input.old) (S.faults input.new) }
+    ensures read_fault { result ≡ Status.ReadFault
+        → Rose (S.faults input.old) (S.faults input.new) }
     ensures write_fault { result ≡ Status.WriteFault → Rose (O.faults out.old) (O.faults out.new) }
     ensures possible { CanComeOf task result }
     ensures no_usage { result ≢ Status.Usage }
-    ensures unavailable { result ≡ Status.ModuleUnavailable → Unfetched (F.texts shelf.old) name.now (F.faults shelf.old) (F.faults shelf.new) }
+    ensures unavailable { result ≡ Status.ModuleUnavailable
+        → Unfetched (F.texts shelf.old) name.now (F.faults shelf.old) (F.faults shelf.new) }
     ensures absent { LacksText (F.texts shelf.old) name.now → result ≡ Status.ModuleUnavailable }
     ensures untouched { ComesBefore result → (input.new ≡ input.old) × (out.new ≡ out.old) }
     ensures of_text { (text : List ℕ) → HasText (F.texts shelf.old) name.now text →
         OfText text task (S.left input.old) (S.left input.new) (O.stands out.old) (O.stands out.new)
-        (Rose (F.faults shelf.old) (F.faults shelf.new)) (Rose (S.faults input.old) (S.faults input.new)) (Rose (O.faults out.old) (O.faults out.new)) result }
+        (Rose (F.faults shelf.old) (F.faults shelf.new))
+        (Rose (S.faults input.old) (S.faults input.new))
+        (Rose (O.faults out.old) (O.faults out.new)) result }
 {
     match shelf.fetch(name.text(), room) {
         Ok(count) => do_text(alloc, &room[..count], task, input, out),
@@ -104,16 +113,21 @@ pub(crate) fn do_module<F: Shelf, S: Source, O: Sink>(
     ensures out_counts { O.faults out.old ≤ O.faults out.new }
     ensures asked { CalledAtMost (calls_of task) (S.calls input.old) (S.calls input.new) }
     ensures untaken { is_run task ≡ false → input.new ≡ input.old }
-    ensures read_fault { result ≡ Status.ReadFault → Rose (S.faults input.old) (S.faults input.new) }
+    ensures read_fault { result ≡ Status.ReadFault
+        → Rose (S.faults input.old) (S.faults input.new) }
     ensures write_fault { result ≡ Status.WriteFault → Rose (O.faults out.old) (O.faults out.new) }
     ensures possible { CanComeOf task result }
     ensures no_usage { result ≢ Status.Usage }
-    ensures unavailable { result ≡ Status.ModuleUnavailable → Unfetched (F.texts shelf.old) name.now (F.faults shelf.old) (F.faults shelf.new) }
-    ensures absent { LacksText (F.texts shelf.old) name.now → (result ≡ Status.ModuleUnavailable) ⊎ (result ≡ Status.NoMemory) }
+    ensures unavailable { result ≡ Status.ModuleUnavailable
+        → Unfetched (F.texts shelf.old) name.now (F.faults shelf.old) (F.faults shelf.new) }
+    ensures absent { LacksText (F.texts shelf.old) name.now
+        → (result ≡ Status.ModuleUnavailable) ⊎ (result ≡ Status.NoMemory) }
     ensures untouched { ComesBefore result → (input.new ≡ input.old) × (out.new ≡ out.old) }
     ensures of_text { (text : List ℕ) → HasText (F.texts shelf.old) name.now text →
         OfText text task (S.left input.old) (S.left input.new) (O.stands out.old) (O.stands out.new)
-        (Rose (F.faults shelf.old) (F.faults shelf.new)) (Rose (S.faults input.old) (S.faults input.new)) (Rose (O.faults out.old) (O.faults out.new)) result }
+        (Rose (F.faults shelf.old) (F.faults shelf.new))
+        (Rose (S.faults input.old) (S.faults input.new))
+        (Rose (O.faults out.old) (O.faults out.new)) result }
 {
     match text_room(alloc) {
         Ok(mut room) => do_fetched(alloc, name, task, &mut room, shelf, input, out),

@@ -1,7 +1,9 @@
+//! What a command asks of a module.
+
 ghost use Rattle.std.specs.Prelude.{◌≡◌};
 ghost use Rattle.averest_top.specs.Commands.{is_strict_in, module_in, task_in, wants_pairs_in};
 
-use outside::Command;
+use command_words::Command;
 use quartz_tree::Name;
 
 /// What is asked of a module.

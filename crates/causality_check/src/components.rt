@@ -1,3 +1,5 @@
+//! The strongly connected components of the graph of needs, by one search in depth.
+
 ghost use Rattle.std.specs.Prelude.{ℕ, List, ◌≡◌, ◌+◌, ◌*◌, ◌<◌, ◌≤◌, ◌^◌, [], ◌∷◌, ◌++◌, length, take, drop, replicate, map, All, Contains, IfOk, OnOk, MatchBool, MatchOption};
 ghost use Rattle.causality_check.specs.Graph.{IsClosed, Needs, row};
 ghost use Rattle.causality_check.specs.Search.{AreComponents, AreUpTo, Ascends, EndsIn, Holds, IsLookedAt, IsRetired, IsStepped, cell_at, effort, looked, mark, mark_in, rank_of, table, with_open};
@@ -18,8 +20,8 @@ pub(crate) enum Mark {
     Closed(usize),
 }
 
-/// The search for components. The cells on the stack are in components that are still open, one above
-/// the other.
+/// The search for components. The cells on the stack are in components that are still open, one
+/// above the other.
 #[derive(Drop)]
 pub(crate) struct Search {
     pub marks: Vec<Mark>,
@@ -77,7 +79,15 @@ fn close_cells(marks: &mut [Mark], cells: &[u32], component: usize)
 impl Search {
     // No cell is reached.
     fn new(alloc: Global, count: usize) -> Result<Search, NoMemory>
-        ensures { IfOk result (λ s. table s ≡ record { marks = replicate count Mark.New; looked = replicate count 0; stack = []; starts = []; work = []; roots = [] }) }
+        ensures { IfOk result
+            (λ s. table s ≡ record {
+              marks = replicate count Mark.New;
+              looked = replicate count 0;
+              stack = [];
+              starts = [];
+              work = [];
+              roots = [];
+            }) }
     {
         Ok(Search {
             marks: vec![in alloc; Mark::New; count]?,
@@ -102,14 +112,15 @@ impl Search {
         Ok(())
     }
 
-    // Looks at a cell that the present one needs, which stands at that place: opens it where it is new,
-    // and joins the components from there on where it is open.
+    // Looks at a cell that the present one needs, which stands at that place: opens it where it is
+    // new, and joins the components from there on where it is open.
     fn look(&mut self, graph: &[Items<u32>], place: usize, target: u32) -> Result<(), NoMemory>
         requires closed { IsClosed graph.now }
         requires holds { Holds graph.now (table self.old) }
         requires present { EndsIn self.old.work.items place }
         requires needed { Needs graph.now (cell_at (table self.old) place) target }
-        ensures { OnOk result (IsLookedAt graph.now (table self.old) (table self.new) place target) }
+        ensures { OnOk result
+            (IsLookedAt graph.now (table self.old) (table self.new) place target) }
     {
         match self.marks[target as usize] {
             Mark::New => {
@@ -128,10 +139,20 @@ impl Search {
     fn close(&mut self, start: usize) -> Result<(), NoMemory>
         requires start { start < length self.old.stack.items }
         requires cells { All (λ a. a < length self.old.marks.items) self.old.stack.items }
-        ensures others { OnOk result (table self.new ≡ record (table self.old) { marks = self.new.marks.items; stack = take start self.old.stack.items; roots = self.old.roots.items ++ cell_at (table self.old) start ∷ [] }) }
+        ensures others { OnOk result
+            (table self.new
+            ≡ record (table self.old) {
+              marks = self.new.marks.items;
+              stack = take start self.old.stack.items;
+              roots = self.old.roots.items ++ cell_at (table self.old) start ∷ [];
+            }) }
         ensures count { length self.new.marks.items ≡ length self.old.marks.items }
-        ensures closed { OnOk result ((a : ℕ) → Contains (drop start self.old.stack.items) a → mark (table self.new) a ≡ Mark.Closed (length self.old.roots.items)) }
-        ensures kept { OnOk result ((a : ℕ) → (¬ Contains (drop start self.old.stack.items) a) → mark (table self.new) a ≡ mark (table self.old) a) }
+        ensures closed { OnOk result
+            ((a : ℕ) → Contains (drop start self.old.stack.items) a
+            → mark (table self.new) a ≡ Mark.Closed (length self.old.roots.items)) }
+        ensures kept { OnOk result
+            ((a : ℕ) → (¬ Contains (drop start self.old.stack.items) a)
+            → mark (table self.new) a ≡ mark (table self.old) a) }
     {
         let component = self.roots.len();
         let root = self.stack[start];
@@ -141,13 +162,17 @@ impl Search {
         Ok(())
     }
 
-    // The present cell, which stands at this place and has nothing to look at any more, retires. Where
-    // a component begins there, it is closed.
+    // The present cell, which stands at this place and has nothing to look at any more, retires.
+    // Where a component begins there, it is closed.
     fn retire(&mut self, place: usize) -> Result<(), NoMemory>
         requires present { EndsIn self.old.work.items place }
         requires place { place < length self.old.stack.items }
         requires cells { All (λ a. a < length self.old.marks.items) self.old.stack.items }
-        ensures { OnOk result ((g : List (List ℕ)) → length (row g (cell_at (table self.old) place)) ≤ looked (table self.old) (cell_at (table self.old) place) → Holds g (table self.old) → IsRetired g (table self.old) (table self.new)) }
+        ensures { OnOk result
+            ((g : List (List ℕ))
+            → length (row g (cell_at (table self.old) place))
+            ≤ looked (table self.old) (cell_at (table self.old) place) → Holds g (table self.old)
+            → IsRetired g (table self.old) (table self.new)) }
     {
         self.work.pop();
         let Some(start) = last_of(self.starts.as_slice()) else {
@@ -161,13 +186,16 @@ impl Search {
         Ok(())
     }
 
-    // Looks at the next cell that the present one needs, or lets the present one retire. False where no
-    // cell is at work.
+    // Looks at the next cell that the present one needs, or lets the present one retire. False
+    // where no cell is at work.
     fn step(&mut self, graph: &[Items<u32>]) -> Result<bool, NoMemory>
         requires closed { IsClosed graph.now }
         requires holds { Holds graph.now (table self.old) }
         ensures stepped { OnOk result (IsStepped graph.now (table self.old) (table self.new)) }
-        ensures less { IfOk result (λ more. MatchBool more (effort graph.now (table self.new) < effort graph.now (table self.old)) (self.new.work.items ≡ [])) }
+        ensures less { IfOk result
+            (λ more. MatchBool more
+            (effort graph.now (table self.new) < effort graph.now (table self.old))
+            (self.new.work.items ≡ [])) }
     {
         let Some(place) = last_of(self.work.as_slice()) else {
             return Ok(false);
@@ -238,8 +266,8 @@ fn ranks(alloc: Global, marks: &[Mark]) -> Result<Vec<usize>, NoMemory>
     Ok(ranks)
 }
 
-/// The component of each cell, by number: cells that reach each other have one number, and what a cell
-/// needs has no greater one.
+/// The component of each cell, by number: cells that reach each other have one number, and what a
+/// cell needs has no greater one.
 pub(crate) fn components(alloc: Global, graph: &[Items<u32>]) -> Result<Vec<usize>, NoMemory>
     requires few { length graph.now < 2 ^ 32 }
     requires closed { IsClosed graph.now }

@@ -1,3 +1,5 @@
+//! The cycle that a fault names: the least-numbered cell on one, and a shortest way around from it.
+
 ghost use Rattle.std.specs.Prelude.{ℕ, suc, List, Option, ◌≡◌, ◌+◌, ◌<◌, ◌≤◌, ◌^◌, [], ◌∷◌, ◌++◌, length, All, Contains, IfOk, OnOk, MatchBool, MatchOption};
 ghost use Rattle.causality_check.specs.Graph.{IsClosed, IsOnCycle, Walk, row};
 ghost use Rattle.causality_check.specs.Search.{AreComponents};
@@ -12,7 +14,8 @@ use std::alloc::Global;
 fn needs_own(ranks: &[usize], needed: &[u32], cell: u32) -> bool
     requires cell { cell < length ranks.now }
     requires needed { All (λ d. d < length ranks.now) needed.now }
-    ensures { MatchBool result (NeedsOwn ranks.now cell needed.now) (NeedsOwn ranks.now cell needed.now → ⊥) }
+    ensures { MatchBool result (NeedsOwn ranks.now cell needed.now)
+        (NeedsOwn ranks.now cell needed.now → ⊥) }
 {
     for other in needed {
         if ranks[*other as usize] == ranks[cell as usize] {
@@ -52,7 +55,8 @@ fn is_sooner(first: (u32, u32), second: (u32, u32)) -> bool
 
 // The sooner one of what was found and one more cell.
 fn nearer(best: Option<(u32, u32)>, cell: u32, distance: Option<u32>) -> Option<(u32, u32)>
-    ensures { (ds : List (Option ℕ)) (ks : List ℕ) → distance_at ds cell ≡ distance → NearestIs ds ks best → NearestIs ds (ks ++ cell ∷ []) result }
+    ensures { (ds : List (Option ℕ)) (ks : List ℕ) → distance_at ds cell ≡ distance
+        → NearestIs ds ks best → NearestIs ds (ks ++ cell ∷ []) result }
 {
     match distance {
         None => best,
@@ -88,7 +92,8 @@ fn next_on_way(graph: &[Items<u32>], distances: &[Option<u32>], goal: u32, cell:
     requires cell { cell < length graph.now }
     requires distances { AreDistances graph.now goal distances.now }
     requires way { (n : ℕ) × Walk graph.now (suc n) cell goal }
-    ensures { (n : ℕ) × IsNearest graph.now goal cell n result × (distance_at distances.now result ≡ Some n) }
+    ensures { (n : ℕ) × IsNearest graph.now goal cell n result
+        × (distance_at distances.now result ≡ Some n) }
 {
     match nearest(distances, needed_by(graph, cell)) {
         Some((_, next)) => next,

@@ -1,3 +1,5 @@
+//! How far each cell is from a goal, by a search in breadth.
+
 ghost use Rattle.std.specs.Prelude.{ℕ, List, ◌≡◌, ◌+◌, ◌<◌, ◌≤◌, ◌^◌, [], ◌∷◌, ◌++◌, length, replicate, All, Contains, IfOk, OnOk};
 ghost use Rattle.causality_check.specs.Graph.{IsClosed, row};
 ghost use Rattle.causality_check.specs.Shortest.{AreDistances, AreMarked, AreUsers, HaveUser, users_of};
@@ -40,7 +42,8 @@ fn mark_cell(
     noted: &mut Items<u32>,
 ) -> Result<(), NoMemory>
     requires { cell < length distances.old }
-    ensures { OnOk result (AreMarked (cell ∷ []) level distances.old distances.new noted.old noted.new) }
+    ensures { OnOk result
+        (AreMarked (cell ∷ []) level distances.old distances.new noted.old noted.new) }
 {
     match distances[cell as usize] {
         Some(_) => Ok(()),
@@ -60,7 +63,8 @@ fn mark(
     noted: &mut Items<u32>,
 ) -> Result<(), NoMemory>
     requires { All (λ k. k < length distances.old) cells.now }
-    ensures { OnOk result (AreMarked cells.now level distances.old distances.new noted.old noted.new) }
+    ensures { OnOk result
+        (AreMarked cells.now level distances.old distances.new noted.old noted.new) }
 {
     for cell in cells {
         mark_cell(distances, *cell, level, noted)?;
@@ -80,7 +84,9 @@ fn spread(
     requires count { length distances.old ≡ length users.now }
     requires closed { IsClosed users.now }
     requires front { All (λ k. k < length users.now) front.now }
-    ensures { IfOk result (λ next. AreMarked (users_of users.now front.now) level distances.old distances.new [] next) }
+    ensures { IfOk result
+        (λ next. AreMarked (users_of users.now front.now) level distances.old distances.new
+        [] next) }
 {
     let mut next = Items::new(alloc);
     for cell in front {

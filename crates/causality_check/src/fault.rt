@@ -1,3 +1,5 @@
+//! The errors of ordering cells.
+
 ghost use Rattle.std.specs.Prelude.{◌≡◌};
 ghost use Rattle.causality_check.specs.declared.fault.OrderFault.TheVariants.{NoMemory as no_memory};
 

@@ -1,3 +1,5 @@
+//! The cells on which a cell depends.
+
 ghost use Rattle.std.specs.Prelude.{◌≡◌, ◌++◌, map, IfOk, OnOk};
 ghost use Rattle.aif_cells.specs.Tree.{tree};
 ghost use Rattle.aif_cells.specs.Built.{all_defined};
@@ -80,7 +82,8 @@ fn gather_each(items: &[Tree], found: &mut Items<u32>) -> Result<(), NoMemory>
 
 #[cycle(gather)]
 fn gather_arms(arms: &[(Tree, Tree)], found: &mut Items<u32>) -> Result<(), NoMemory>
-    ensures { OnOk result (found.new ≡ found.old ++ cells_in_arms (map (λ a. (tree a.0, tree a.1)) arms.now)) }
+    ensures { OnOk result
+        (found.new ≡ found.old ++ cells_in_arms (map (λ a. (tree a.0, tree a.1)) arms.now)) }
 {
     for (cond, value) in arms {
         gather(cond, found)?;

@@ -1,3 +1,5 @@
+//! The graph of needs: for each cell a list of cells.
+
 ghost use Rattle.std.specs.Prelude.{◌≡◌, ◌<◌, length};
 ghost use Rattle.causality_check.specs.Graph.{row};
 

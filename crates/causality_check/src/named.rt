@@ -1,3 +1,5 @@
+//! Whether trees name only cells that there are.
+
 ghost use Rattle.std.specs.Prelude.{◌≡◌, ◌<◌, All, IfOk, IsTrue, MatchBool, length};
 ghost use Rattle.aif_cells.specs.Built.{all_defined};
 ghost use Rattle.causality_check.specs.Graph.{IsClosed};
@@ -11,7 +13,9 @@ use std::alloc::Global;
 
 /// Whether each cell that a tree names exists, which `order` asks.
 pub fn are_named(alloc: Global, aif: &Aif) -> Result<bool, NoMemory>
-    ensures { IfOk result (λ named. MatchBool named (NamesCells (all_defined aif.now.cells)) (NamesCells (all_defined aif.now.cells) → ⊥)) }
+    ensures { IfOk result
+        (λ named. MatchBool named (NamesCells (all_defined aif.now.cells))
+        (NamesCells (all_defined aif.now.cells) → ⊥)) }
 {
     let graph = needs_of_cells(alloc, aif.cells.as_slice())?;
     let closed = is_closed(graph.as_slice());
@@ -19,7 +23,8 @@ pub fn are_named(alloc: Global, aif: &Aif) -> Result<bool, NoMemory>
 }
 
 fn are_below(cells: &[u32], count: usize) -> bool
-    ensures { MatchBool result (All (λ d. d < count) cells.now) (All (λ d. d < count) cells.now → ⊥) }
+    ensures { MatchBool result (All (λ d. d < count) cells.now)
+        (All (λ d. d < count) cells.now → ⊥) }
 {
     for cell in cells {
         if *cell as usize >= count {

@@ -1,3 +1,5 @@
+//! The order of the cells, or the cycle.
+
 ghost use Rattle.std.specs.Prelude.{ℕ, List, ◌≡◌, ◌<◌, ◌^◌, ◌∷◌, length, Contains, IfOk, IfErr, OnOk};
 ghost use Rattle.aif_cells.specs.Built.{all_defined};
 ghost use Rattle.aif_cells.specs.Order.{IsOrder};
@@ -17,11 +19,11 @@ use quartz_tree::NoMemory;
 use sqlite_items::Items;
 use std::alloc::Global;
 
-/// The order in which the cells are computed: again and again the least-numbered cell that depends only
-/// on cells that are taken.
+/// The order in which the cells are computed: again and again the least-numbered cell that depends
+/// only on cells that are taken.
 ///
-/// Where that stops early there is a cycle. The one in the fault starts at the least-numbered cell that
-/// lies on a cycle, is a shortest one through it, and is the first such list by its numbers.
+/// Where that stops early there is a cycle. The one in the fault starts at the least-numbered cell
+/// that lies on a cycle, is a shortest one through it, and is the first such list by its numbers.
 pub fn order(alloc: Global, aif: &Aif) -> Result<Order, OrderFault>
     requires few { length aif.now.cells < 2 ^ 31 }
     requires named { NamesCells (all_defined aif.now.cells) }

@@ -1,3 +1,5 @@
+//! Taking cells in turn, each behind those that it needs.
+
 ghost use Rattle.std.specs.Prelude.{ℕ, List, ◌≡◌, ◌+◌, ◌<◌, ◌≤◌, ◌^◌, ◌⊎◌, ◌↔◌, ◌++◌, [], ◌∷◌, true, false, length, All, Contains, slice_index_or, slice_index, slice_set, replicate, IfOk, OnOk, MatchBool, MatchOption};
 ghost use Rattle.causality_check.specs.Graph.{IsClosed, Needs, row};
 ghost use Rattle.causality_check.specs.Turns.{Adds, AllLeftAreHeldUp, AreInTurn, IsFit, IsFree, IsSound, PopsLeast, SomeIsLeft, tables};
@@ -34,7 +36,8 @@ fn add(ready: &mut BTreeSet<u32>, cell: u32) -> Result<(), NoMemory>
 
 // Takes the least cell out of those that are ready.
 fn pop_least(ready: &mut BTreeSet<u32>) -> Option<u32>
-    ensures { MatchOption result ((ready.old.keys ≡ []) × (ready.new.keys ≡ [])) (λ k. PopsLeast ready.old.keys k ready.new.keys) }
+    ensures { MatchOption result ((ready.old.keys ≡ []) × (ready.new.keys ≡ []))
+        (λ k. PopsLeast ready.old.keys k ready.new.keys) }
 {
     ready.pop_first()
 }
@@ -45,8 +48,10 @@ fn next_left(taken: &[bool], needed: &[u32], from: usize) -> usize
     requires cells { All (λ d. d < length taken.now) needed.now }
     ensures behind { from ≤ result }
     ensures within { result ≤ length needed.now }
-    ensures taken { (i : ℕ) → from ≤ i → i < result → slice_index_or taken.now (slice_index needed.now i) false ≡ true }
-    ensures left { result < length needed.now → slice_index_or taken.now (slice_index needed.now result) false ≡ false }
+    ensures taken { (i : ℕ) → from ≤ i → i < result
+        → slice_index_or taken.now (slice_index needed.now i) false ≡ true }
+    ensures left { result < length needed.now
+        → slice_index_or taken.now (slice_index needed.now result) false ≡ false }
 {
     for at in from..needed.len() {
         if !taken[needed[at] as usize] {
@@ -64,7 +69,9 @@ impl Turns {
         requires cell { cell < length graph.now }
         requires fit { IsFit graph.now (tables self.old) }
         ensures order { OnOk result (self.new.order ≡ self.old.order) }
-        ensures placed { OnOk result ((rest : List ℕ) → IsSound graph.now (cell ∷ rest) (tables self.old) → (¬ Contains self.old.order cell) → IsSound graph.now rest (tables self.new)) }
+        ensures placed { OnOk result
+            ((rest : List ℕ) → IsSound graph.now (cell ∷ rest) (tables self.old)
+            → (¬ Contains self.old.order cell) → IsSound graph.now rest (tables self.new)) }
     {
         let needed = needed_by(graph, cell);
         let at = next_left(self.taken.as_slice(), needed, self.passed[cell as usize]);
@@ -83,7 +90,8 @@ impl Turns {
         requires waiting { cell < length self.old.waiting.items }
         ensures taken { self.new.taken.items ≡ slice_set self.old.taken.items cell true }
         ensures passed { self.new.passed.items ≡ self.old.passed.items }
-        ensures waiting { OnOk result (self.new.waiting.items ≡ slice_set self.old.waiting.items cell []) }
+        ensures waiting { OnOk result
+            (self.new.waiting.items ≡ slice_set self.old.waiting.items cell []) }
         ensures ready { self.new.ready.keys ≡ self.old.ready.keys }
         ensures order { OnOk result (self.new.order ≡ self.old.order ++ cell ∷ []) }
         ensures waited { IfOk result (λ w. w ≡ row self.old.waiting.items cell) }
@@ -116,7 +124,9 @@ impl Turns {
         requires closed { IsClosed graph.now }
         requires sound { IsSound graph.now [] (tables self.old) }
         ensures sound { OnOk result (IsSound graph.now [] (tables self.new)) }
-        ensures more { IfOk result (λ more. MatchBool more (length self.new.order ≡ length self.old.order + 1) (self.new.ready.keys ≡ [])) }
+        ensures more { IfOk result
+            (λ more. MatchBool more (length self.new.order ≡ length self.old.order + 1)
+            (self.new.ready.keys ≡ [])) }
     {
         let Some(cell) = pop_least(&mut self.ready) else {
             return Ok(false);
@@ -140,8 +150,8 @@ pub(crate) fn empty_lists(alloc: Global, count: usize) -> Result<Vec<Items<u32>>
     Ok(lists)
 }
 
-/// The cells as far as they can be taken in turn, each time the least one that needs only cells that
-/// are taken.
+/// The cells as far as they can be taken in turn, each time the least one that needs only cells
+/// that are taken.
 pub(crate) fn take_in_turn(alloc: Global, graph: &[Items<u32>]) -> Result<Items<u32>, NoMemory>
     requires few { length graph.now < 2 ^ 32 }
     requires closed { IsClosed graph.now }

@@ -1,3 +1,5 @@
+//! The memory of a run, all taken before its first read.
+
 ghost use Rattle.std.specs.Prelude.{◌≡◌, ◌≤◌, ◌<◌, ◌+◌, ◌^◌, List, ℕ, map, length, vec_capacity, IfOk};
 ghost use Rattle.quartz_expr.specs.Typed.{AreSound};
 ghost use Rattle.aif_cells.specs.Worth.{number_at};

@@ -1,3 +1,5 @@
+//! A run of cells over a trace: the loop over its macro steps.
+
 ghost use Rattle.std.specs.Prelude.{◌≡◌, ◌≤◌, ◌<◌, ◌+◌, ◌*◌, ◌^◌, List, ℕ, Some, None, false, length, map, vec_capacity, IfOk, OnErr, Ok, Err};
 ghost use Rattle.outside.specs.Bytes.{Rose};
 ghost use Rattle.quartz_tree.specs.Kernel.{Kernel};
@@ -28,8 +30,10 @@ use trace_io::ReadStep;
 fn read_step<S: Source>(input: &mut S, room: &mut Room, step: u32) -> Result<(), Status>
     requires goes_on { room.old.reader.over ≡ None }
     requires room { length room.old.reader.trail.course.last ≤ vec_capacity room.old.packet.values }
-    ensures came { CameTo step room.old.reader.trail (S.left input.old) (S.faults input.old) (S.calls input.old) result
-        room.new.reader.trail room.new.packet.values.items (S.left input.new) (S.faults input.new) (S.calls input.new) }
+    ensures came { CameTo step room.old.reader.trail (S.left input.old) (S.faults input.old)
+        (S.calls input.old) result
+        room.new.reader.trail room.new.packet.values.items
+        (S.left input.new) (S.faults input.new) (S.calls input.new) }
     ensures goes_on { result ≡ Ok tt → room.new.reader.over ≡ None }
     ensures begun { result ≡ Ok tt → room.new.reader.trail.is_fresh ≡ false }
     ensures registers_stay { room.new.registers.items ≡ room.old.registers.items }
@@ -47,9 +51,14 @@ fn read_step<S: Source>(input: &mut S, room: &mut Room, step: u32) -> Result<(),
 fn react(aif: &Aif, order: &Order, room: &mut Room) -> Option<Fault>
     requires order { IsOrder (all_defined aif.now.cells) order.now.cells }
     requires room { HasRoomFor aif.now room.old }
-    ensures solution { IsSolution (listed room.old.packet.values.items room.old.registers.items room.new.cells.items) (all_defined aif.now.cells) }
-    ensures fault { result ≡ least_fault (raised (listed room.old.packet.values.items room.old.registers.items room.new.cells.items) aif.now.monitors) }
-    ensures stays { (room.new.registers.items ≡ room.old.registers.items) × (room.new.packet ≡ room.old.packet) × (room.new.reader ≡ room.old.reader) }
+    ensures solution { IsSolution
+        (listed room.old.packet.values.items room.old.registers.items room.new.cells.items)
+        (all_defined aif.now.cells) }
+    ensures fault { result ≡ least_fault (raised
+        (listed room.old.packet.values.items room.old.registers.items room.new.cells.items)
+        aif.now.monitors) }
+    ensures stays { (room.new.registers.items ≡ room.old.registers.items)
+        × (room.new.packet ≡ room.old.packet) × (room.new.reader ≡ room.old.reader) }
     ensures room_stays { HasRoomFor aif.now room.new }
 {
     evaluate(
@@ -65,7 +74,9 @@ fn react(aif: &Aif, order: &Order, room: &mut Room) -> Option<Fault>
 // Goes on to the next macro step: its registers, and the outputs' values to be written.
 fn go_on(aif: &Aif, room: &mut Room)
     requires room { HasRoomFor aif.now room.old }
-    ensures registers { room.new.registers.items ≡ next_values (listed room.old.packet.values.items room.old.registers.items room.old.cells.items) aif.now.registers }
+    ensures registers { room.new.registers.items ≡ next_values
+        (listed room.old.packet.values.items room.old.registers.items room.old.cells.items)
+        aif.now.registers }
     ensures shows { room.new.packet.values.items ≡ shown aif.now.outputs room.old.cells.items }
     ensures reader_stays { room.new.reader ≡ room.old.reader }
     ensures room_stays { HasRoomFor aif.now room.new }
@@ -98,10 +109,13 @@ fn run_in<S: Source, O: Sink>(
     ensures out_counts { O.faults out.old ≤ O.faults out.new }
     ensures asked { CalledAtMost (calls_of_run most_steps) (S.calls input.old) (S.calls input.new) }
     ensures of_run { IsOfRun result }
-    ensures read_fault { result ≡ Status.ReadFault → Rose (S.faults input.old) (S.faults input.new) }
+    ensures read_fault { result ≡ Status.ReadFault
+        → Rose (S.faults input.old) (S.faults input.new) }
     ensures write_fault { result ≡ Status.WriteFault → Rose (O.faults out.old) (O.faults out.new) }
-    ensures told { (vs : Vars) (body : Kernel) → Executes vs body aif.now → (trace : List ℕ) → S.left input.old ≡ Some trace →
-        Tells vs body trace most_steps (O.stands out.old) (O.stands out.new) (S.left input.new) result }
+    ensures told { (vs : Vars) (body : Kernel) → Executes vs body aif.now → (trace : List ℕ)
+        → S.left input.old ≡ Some trace →
+        Tells vs body trace most_steps (O.stands out.old) (O.stands out.new) (S.left input.new)
+        result }
 {
     for step in 0..most_steps {
         if let Err(status) = read_step(input, room, step) {
@@ -143,9 +157,13 @@ pub fn run_cells<S: Source, O: Sink>(
     ensures asked { CalledAtMost (calls_of_run most_steps) (S.calls input.old) (S.calls input.new) }
     ensures no_memory { OnErr result ((input.new ≡ input.old) × (out.new ≡ out.old)) }
     ensures of_run { IfOk result (λ s. IsOfRun s) }
-    ensures read_fault { IfOk result (λ s. s ≡ Status.ReadFault → Rose (S.faults input.old) (S.faults input.new)) }
-    ensures write_fault { IfOk result (λ s. s ≡ Status.WriteFault → Rose (O.faults out.old) (O.faults out.new)) }
-    ensures told { IfOk result (λ s. (vs : Vars) (body : Kernel) → Executes vs body aif.now → (trace : List ℕ) → S.left input.old ≡ Some trace →
+    ensures read_fault { IfOk result
+        (λ s. s ≡ Status.ReadFault → Rose (S.faults input.old) (S.faults input.new)) }
+    ensures write_fault { IfOk result
+        (λ s. s ≡ Status.WriteFault → Rose (O.faults out.old) (O.faults out.new)) }
+    ensures told { IfOk result
+        (λ s. (vs : Vars) (body : Kernel) → Executes vs body aif.now → (trace : List ℕ)
+        → S.left input.old ≡ Some trace →
         Tells vs body trace most_steps (O.stands out.old) (O.stands out.new) (S.left input.new) s) }
 {
     let mut room = room_for(alloc, aif)?;

@@ -1,3 +1,5 @@
+//! A test for a fault.
+
 use aif_cells::Tree;
 use quartz_tree::{Kind, Place};
 

@@ -1,3 +1,5 @@
+//! The guard of a part of an expression, whose tree is made only where a test needs it.
+
 ghost use Rattle.std.specs.Prelude.{◌≡◌, ◌&&◌, IfOk, true};
 ghost use Rattle.quartz_tree.specs.Tree.{tree as plain};
 ghost use Rattle.quartz_expr.specs.Vars.{Vars};
@@ -58,7 +60,10 @@ pub(crate) fn guard_tree(
 
 /// The guard of a choice's side.
 pub(crate) fn inside<'a>(outer: &'a Guard<'a>, cond: &'a Expr<u32>, holds: bool) -> Guard<'a>
-    ensures guard { (vs : Vars) (κ : Copies) → guard_in vs κ result ≡ two TreeTwo.And (guard_in vs κ outer.now) (plain_side holds (tree_of vs κ (plain cond.now))) }
+    ensures guard { (vs : Vars) (κ : Copies)
+        → guard_in vs κ result
+        ≡ two TreeTwo.And (guard_in vs κ outer.now)
+        (plain_side holds (tree_of vs κ (plain cond.now))) }
     ensures fits { fits_guard result ≡ fits_guard outer.now && fits (plain cond.now) }
 {
     Guard::Side { outer, cond, holds }

@@ -1,3 +1,5 @@
+//! The tests of an expression's faults: of indexes and of divisors.
+
 ghost use Rattle.std.specs.Prelude.{◌≡◌, ◌&&◌, ◌++◌, ◌∷◌, [], ◌≤◌, pos, true, IfOk, OnOk};
 ghost use Rattle.quartz_tree.specs.Tree.{tree as plain};
 ghost use Rattle.quartz_expr.specs.Faults.{divides as plain_divides};
@@ -36,9 +38,9 @@ fn length_of(vars: &[Var], var: u32) -> Option<u128>
     }
 }
 
-// How many elements a variable has.
+/// How many elements a variable has, of those whose types are checked: 64 at most.
 #[tactic(auto, using(quartz_expr::proofs::RangeLemmas::count_small))]
-fn count_elements(vars: &[Var], var: u32) -> u32
+pub fn count_elements(vars: &[Var], var: u32) -> u32
     requires { have_sound_types vars.now ≡ true }
     ensures count { result ≡ count_of vars.now var }
     ensures small { result ≤ 64 }
@@ -64,7 +66,9 @@ fn outside(
     count: u32,
 ) -> Result<Tree, NoMemory>
     requires { fits (plain index.now) ≡ true }
-    ensures { IfOk result (λ t. tree t ≡ is_outside (tree_of vars.now copies.now (plain index.now)) (pos 0) (pos count)) }
+    ensures { IfOk result
+        (λ t. tree t ≡ is_outside (tree_of vars.now copies.now (plain index.now)) (pos 0)
+        (pos count)) }
 {
     let index_again = fitting_tree(alloc, vars, copies, index)?;
     let index = fitting_tree(alloc, vars, copies, index)?;
@@ -85,7 +89,14 @@ pub(crate) fn push_test(
     tests: &mut Vec<Test>,
 ) -> Result<(), NoMemory>
     requires { fits_guard guard.now ≡ true }
-    ensures { OnOk result (all_tests tests.new.items ≡ all_tests tests.old.items ++ record { tree = two TreeTwo.And (guard_in vars.now copies.now guard.now) (tree tested); kind = kind; place = place } ∷ []) }
+    ensures { OnOk result
+        (all_tests tests.new.items
+        ≡ all_tests tests.old.items
+        ++ record {
+          tree = two TreeTwo.And (guard_in vars.now copies.now guard.now) (tree tested);
+          kind = kind;
+          place = place;
+        } ∷ []) }
 {
     let guard = guard_tree(alloc, vars, copies, guard)?;
     let tree = with_two(alloc, TreeTwo::And, guard, tested)?;
@@ -107,7 +118,11 @@ pub(crate) fn push_index_test(
     requires types { have_sound_types vars.now ≡ true }
     requires guard { fits_guard guard.now ≡ true }
     requires index { fits (plain index.now) ≡ true }
-    ensures { OnOk result (all_tests tests.new.items ≡ all_tests tests.old.items ++ index_tests vars.now copies.now (guard_in vars.now copies.now guard.now) var (plain index.now) place) }
+    ensures { OnOk result
+        (all_tests tests.new.items
+        ≡ all_tests tests.old.items
+        ++ index_tests vars.now copies.now (guard_in vars.now copies.now guard.now) var
+        (plain index.now) place) }
 {
     if !may_be_outside(vars, var, index) {
         return Ok(());
@@ -151,7 +166,11 @@ fn push_divisor_test(
 ) -> Result<(), NoMemory>
     requires guard { fits_guard guard.now ≡ true }
     requires divisor { fits (plain divisor.now) ≡ true }
-    ensures { OnOk result (all_tests tests.new.items ≡ all_tests tests.old.items ++ divisor_tests vars.now copies.now (guard_in vars.now copies.now guard.now) op (plain divisor.now) place) }
+    ensures { OnOk result
+        (all_tests tests.new.items
+        ≡ all_tests tests.old.items
+        ++ divisor_tests vars.now copies.now (guard_in vars.now copies.now guard.now) op
+        (plain divisor.now) place) }
 {
     if !may_divide_by_zero(op, divisor, vars) {
         return Ok(());
@@ -182,7 +201,10 @@ pub(crate) fn push_guarded(
     requires types { have_sound_types vars.now ≡ true }
     requires guard { fits_guard guard.now ≡ true }
     requires parts { fits (plain e.now) ≡ true }
-    ensures { OnOk result (all_tests tests.new.items ≡ all_tests tests.old.items ++ tests_of vars.now copies.now (guard_in vars.now copies.now guard.now) (plain e.now)) }
+    ensures { OnOk result
+        (all_tests tests.new.items
+        ≡ all_tests tests.old.items
+        ++ tests_of vars.now copies.now (guard_in vars.now copies.now guard.now) (plain e.now)) }
 {
     match e {
         Expr::Truth { .. } => Ok(()),
@@ -218,8 +240,8 @@ pub(crate) fn push_guarded(
     }
 }
 
-/// The tests of an expression under a guard, behind the others: of its parts from left to right, of a
-/// part before the whole, and of the sides of a choice under its condition.
+/// The tests of an expression under a guard, behind the others: of its parts from left to right, of
+/// a part before the whole, and of the sides of a choice under its condition.
 #[tactic(auto, using(crate::proofs::LiteralLemmas::fits_typed))]
 pub fn push_tests(
     alloc: Global,
@@ -231,7 +253,9 @@ pub fn push_tests(
 ) -> Result<(), NoMemory>
     requires sound { AreSound vars.now }
     requires typed { IsTyped vars.now (plain e.now) }
-    ensures { OnOk result (all_tests tests.new.items ≡ all_tests tests.old.items ++ tests_of vars.now copies.now (value guard) (plain e.now)) }
+    ensures { OnOk result
+        (all_tests tests.new.items
+        ≡ all_tests tests.old.items ++ tests_of vars.now copies.now (value guard) (plain e.now)) }
 {
     push_guarded(alloc, vars, copies, &Guard::Given(guard), e, tests)
 }

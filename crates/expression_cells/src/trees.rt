@@ -1,3 +1,5 @@
+//! The tree of an expression.
+
 ghost use Rattle.std.specs.Prelude.{◌≡◌, ◌<◌, ◌^◌, IfOk, map, true, unwrap_or};
 ghost use Rattle.quartz_tree.specs.Tree.{tree as plain};
 ghost use Rattle.quartz_expr.specs.Kinds.{choice_kind, kind, kind_with, one_kind, slice_kind, two_kind};
@@ -76,7 +78,7 @@ fn values(alloc: Global, refs: &[Ref]) -> Result<Vec<Tree>, NoMemory>
 }
 
 // A choice among the elements by an index that is no literal.
-fn selected(alloc: Global, refs: &[Ref], index: Tree) -> Result<Tree, NoMemory>
+fn select(alloc: Global, refs: &[Ref], index: Tree) -> Result<Tree, NoMemory>
     ensures { IfOk result (λ t. tree t ≡ sel (tree index) (trees (map value refs.now))) }
 {
     let elements = values(alloc, refs)?;
@@ -90,7 +92,7 @@ fn at_index(alloc: Global, refs: &[Ref], index: Tree) -> Result<Tree, NoMemory>
 {
     match reference_in(&index) {
         Some(Ref::Lit(at)) => Ok(Tree::Value(element(refs, at))),
-        _ => selected(alloc, refs, index),
+        _ => select(alloc, refs, index),
     }
 }
 
@@ -106,7 +108,12 @@ fn complement(alloc: Global, kind: Option<ExprKind>, part: Tree) -> Result<Tree,
     }
 }
 
-fn operated(alloc: Global, op: Unary, kind: Option<ExprKind>, part: Tree) -> Result<Tree, NoMemory>
+fn apply_unary(
+    alloc: Global,
+    op: Unary,
+    kind: Option<ExprKind>,
+    part: Tree,
+) -> Result<Tree, NoMemory>
     ensures { IfOk result (λ t. tree t ≡ one_of op kind (tree part)) }
 {
     match op {
@@ -124,7 +131,8 @@ fn bitwise(
     left: Tree,
     right: Tree,
 ) -> Result<Tree, NoMemory>
-    ensures { IfOk result (λ t. tree t ≡ bitwise_of kind on_truth on_bits (tree left) (tree right)) }
+    ensures { IfOk result
+        (λ t. tree t ≡ bitwise_of kind on_truth on_bits (tree left) (tree right)) }
 {
     match kind {
         Some(ExprKind::Vector(_)) => with_two(alloc, on_bits, left, right),
@@ -135,7 +143,8 @@ fn bitwise(
 }
 
 fn implication(alloc: Global, left: Tree, right: Tree) -> Result<Tree, NoMemory>
-    ensures { IfOk result (λ t. tree t ≡ two TreeTwo.Or (one TreeOne.Not (tree left)) (tree right)) }
+    ensures { IfOk result
+        (λ t. tree t ≡ two TreeTwo.Or (one TreeOne.Not (tree left)) (tree right)) }
 {
     let not = with_one(alloc, TreeOne::Not, left)?;
     with_two(alloc, TreeTwo::Or, not, right)
@@ -161,7 +170,7 @@ fn concatenation(alloc: Global, width: u32, left: Tree, right: Tree) -> Result<T
 }
 
 // An operator on two trees, the right one of that kind.
-fn operated_on_two(
+fn apply_binary(
     alloc: Global,
     op: Binary,
     kind: Option<ExprKind>,
@@ -205,7 +214,7 @@ fn of_kind(tree: Tree, kind: Option<ExprKind>) -> Built
     Built { tree, kind }
 }
 
-fn built_element(
+fn build_element(
     alloc: Global,
     refs: &[Ref],
     index: Tree,
@@ -217,28 +226,33 @@ fn built_element(
     Ok(of_kind(at_index(alloc, refs, index)?, kind))
 }
 
-fn built_one(alloc: Global, op: Unary, part: Built) -> Result<Built, NoMemory>
+fn build_one(alloc: Global, op: Unary, part: Built) -> Result<Built, NoMemory>
     ensures tree { IfOk result (λ b. tree b.tree ≡ one_of op part.kind (tree part.tree)) }
     ensures kind { IfOk result (λ b. b.kind ≡ kind_with part.kind (one_kind op)) }
 {
     let kind = kind_of_one(op, part.kind);
-    Ok(of_kind(operated(alloc, op, part.kind, part.tree)?, kind))
+    Ok(of_kind(apply_unary(alloc, op, part.kind, part.tree)?, kind))
 }
 
-fn built_two(alloc: Global, op: Binary, left: Built, right: Built) -> Result<Built, NoMemory>
-    ensures tree { IfOk result (λ b. tree b.tree ≡ two_of op right.kind (tree left.tree) (tree right.tree)) }
-    ensures kind { IfOk result (λ b. b.kind ≡ kind_with left.kind (λ k. kind_with right.kind (two_kind op k))) }
+fn build_two(alloc: Global, op: Binary, left: Built, right: Built) -> Result<Built, NoMemory>
+    ensures tree { IfOk result
+        (λ b. tree b.tree ≡ two_of op right.kind (tree left.tree) (tree right.tree)) }
+    ensures kind { IfOk result
+        (λ b. b.kind ≡ kind_with left.kind (λ k. kind_with right.kind (two_kind op k))) }
 {
     let kind = kind_of_two(op, left.kind, right.kind);
     Ok(of_kind(
-        operated_on_two(alloc, op, right.kind, left.tree, right.tree)?,
+        apply_binary(alloc, op, right.kind, left.tree, right.tree)?,
         kind,
     ))
 }
 
-fn built_choice(alloc: Global, cond: Built, yes: Built, no: Built) -> Result<Built, NoMemory>
-    ensures tree { IfOk result (λ b. tree b.tree ≡ ite (tree cond.tree) (tree yes.tree) (tree no.tree)) }
-    ensures kind { IfOk result (λ b. b.kind ≡ kind_with cond.kind (λ l. kind_with yes.kind (λ k. kind_with no.kind (choice_kind l k)))) }
+fn build_choice(alloc: Global, cond: Built, yes: Built, no: Built) -> Result<Built, NoMemory>
+    ensures tree { IfOk result
+        (λ b. tree b.tree ≡ ite (tree cond.tree) (tree yes.tree) (tree no.tree)) }
+    ensures kind { IfOk result
+        (λ b. b.kind ≡ kind_with cond.kind
+        (λ l. kind_with yes.kind (λ k. kind_with no.kind (choice_kind l k)))) }
 {
     let kind = kind_of_choice(cond.kind, yes.kind, no.kind);
     let cond = Box::new(alloc, cond.tree)?;
@@ -247,10 +261,11 @@ fn built_choice(alloc: Global, cond: Built, yes: Built, no: Built) -> Result<Bui
     Ok(of_kind(Tree::Ite(cond, yes, no), kind))
 }
 
-fn built_slice(alloc: Global, part: Built, high: u128, low: Option<u128>) -> Result<Built, NoMemory>
+fn build_slice(alloc: Global, part: Built, high: u128, low: Option<u128>) -> Result<Built, NoMemory>
     requires high { high < 2 ^ 32 }
     requires low { unwrap_or low high < 2 ^ 32 }
-    ensures tree { IfOk result (λ b. tree b.tree ≡ bits (tree part.tree) high (unwrap_or low high)) }
+    ensures tree { IfOk result
+        (λ b. tree b.tree ≡ bits (tree part.tree) high (unwrap_or low high)) }
     ensures kind { IfOk result (λ b. b.kind ≡ kind_with part.kind (slice_kind high low)) }
 {
     let kind = kind_of_slice(high, low, part.kind);
@@ -283,11 +298,11 @@ fn build(alloc: Global, vars: &[Var], copies: &[Current], e: &Expr<u32>) -> Resu
         Expr::Element { var, index, .. } => {
             let index = build(alloc, vars, copies, index)?;
             let kind = kind_of_element(*var, index.kind, vars);
-            built_element(alloc, refs_of(copies, *var), index.tree, kind)
+            build_element(alloc, refs_of(copies, *var), index.tree, kind)
         }
         Expr::One { op, part, .. } => {
             let part = build(alloc, vars, copies, part)?;
-            built_one(alloc, *op, part)
+            build_one(alloc, *op, part)
         }
         Expr::Two {
             op,
@@ -297,13 +312,13 @@ fn build(alloc: Global, vars: &[Var], copies: &[Current], e: &Expr<u32>) -> Resu
         } => {
             let left = build(alloc, vars, copies, left)?;
             let right = build(alloc, vars, copies, right)?;
-            built_two(alloc, *op, left, right)
+            build_two(alloc, *op, left, right)
         }
         Expr::Choice { cond, yes, no, .. } => {
             let cond = build(alloc, vars, copies, cond)?;
             let yes = build(alloc, vars, copies, yes)?;
             let no = build(alloc, vars, copies, no)?;
-            built_choice(alloc, cond, yes, no)
+            build_choice(alloc, cond, yes, no)
         }
         Expr::Slice {
             part,
@@ -312,7 +327,7 @@ fn build(alloc: Global, vars: &[Var], copies: &[Current], e: &Expr<u32>) -> Resu
             ..
         } => {
             let part = build(alloc, vars, copies, part)?;
-            built_slice(alloc, part, *high, *low)
+            build_slice(alloc, part, *high, *low)
         }
         Expr::ToNat { part, .. } => {
             let part = build(alloc, vars, copies, part)?;

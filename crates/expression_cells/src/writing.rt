@@ -1,3 +1,5 @@
+//! What is written to a variable, and the tests of a write's faults.
+
 ghost use Rattle.std.specs.Prelude.{◌≡◌, ◌++◌, IfOk, OnOk, option_map, true};
 ghost use Rattle.quartz_tree.specs.Tree.{tree as plain};
 ghost use Rattle.quartz_expr.specs.Typed.{AreSound, IsTyped};
@@ -28,7 +30,10 @@ pub fn push_target_tests(
 ) -> Result<(), NoMemory>
     requires sound { AreSound vars.now }
     requires typed { HasTypedIndex vars.now (option_map plain index.now) }
-    ensures { OnOk result (all_tests tests.new.items ≡ all_tests tests.old.items ++ target_tests vars.now copies.now (reference guard) (option_map plain index.now)) }
+    ensures { OnOk result
+        (all_tests tests.new.items
+        ≡ all_tests tests.old.items
+        ++ target_tests vars.now copies.now (reference guard) (option_map plain index.now)) }
 {
     match index {
         None => Ok(()),
@@ -51,7 +56,11 @@ pub fn push_element_tests(
 ) -> Result<(), NoMemory>
     requires sound { AreSound vars.now }
     requires typed { HasTypedIndex vars.now (option_map plain index.now) }
-    ensures { OnOk result (all_tests tests.new.items ≡ all_tests tests.old.items ++ element_tests vars.now copies.now (reference guard) var (option_map plain index.now) place) }
+    ensures { OnOk result
+        (all_tests tests.new.items
+        ≡ all_tests tests.old.items
+        ++ element_tests vars.now copies.now (reference guard) var
+        (option_map plain index.now) place) }
 {
     match index {
         None => Ok(()),
@@ -85,7 +94,11 @@ fn beyond(
     range: Span,
 ) -> Result<Tree, NoMemory>
     requires { fits (plain value.now) ≡ true }
-    ensures { IfOk result (λ t. tree t ≡ two TreeTwo.Or (two TreeTwo.Lt (tree_of vars.now copies.now (plain value.now)) (plain_literal range.low)) (two TreeTwo.Gt (tree_of vars.now copies.now (plain value.now)) (plain_literal range.high))) }
+    ensures { IfOk result
+        (λ t. tree t ≡ two TreeTwo.Or
+        (two TreeTwo.Lt (tree_of vars.now copies.now (plain value.now)) (plain_literal range.low))
+        (two TreeTwo.Gt (tree_of vars.now copies.now (plain value.now))
+        (plain_literal range.high))) }
 {
     let value_again = fitting_tree(alloc, vars, copies, value)?;
     let value = fitting_tree(alloc, vars, copies, value)?;
@@ -108,7 +121,10 @@ pub fn push_range_tests(
     tests: &mut Vec<Test>,
 ) -> Result<(), NoMemory>
     requires { IsTyped vars.now (plain value.now) }
-    ensures { OnOk result (all_tests tests.new.items ≡ all_tests tests.old.items ++ range_tests vars.now copies.now (reference guard) var (plain value.now) place) }
+    ensures { OnOk result
+        (all_tests tests.new.items
+        ≡ all_tests tests.old.items
+        ++ range_tests vars.now copies.now (reference guard) var (plain value.now) place) }
 {
     if !may_leave_range(vars, var, value) {
         return Ok(());
@@ -127,14 +143,14 @@ pub fn push_range_tests(
 }
 
 // The tree where its value lies in the range, else 0.
-fn fitted(alloc: Global, computed: Tree, range: Span) -> Result<Tree, NoMemory>
+fn fit(alloc: Global, computed: Tree, range: Span) -> Result<Tree, NoMemory>
     ensures { IfOk result (λ t. tree t ≡ fit (tree computed) range.low range.high) }
 {
     Ok(Tree::Fit(Box::new(alloc, computed)?, range.low, range.high))
 }
 
-/// What is written to a variable: the value's tree, and 0 where the value lies outside the variable's
-/// range.
+/// What is written to a variable: the value's tree, and 0 where the value lies outside the
+/// variable's range.
 #[tactic(auto, using(crate::proofs::LiteralLemmas::fits_typed))]
 pub fn fitted_tree(
     alloc: Global,
@@ -150,5 +166,5 @@ pub fn fitted_tree(
     if !may_leave_range(vars, var, value) {
         return Ok(computed);
     }
-    fitted(alloc, computed, range_in(vars, var))
+    fit(alloc, computed, range_in(vars, var))
 }

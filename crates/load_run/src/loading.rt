@@ -1,3 +1,5 @@
+//! A run of cells over a generated trace, and its summary.
+
 ghost use Rattle.std.specs.Prelude.{◌≡◌, ◌≢◌, ◌≤◌, ◌⊎◌, length, IfOk, OnErr};
 ghost use Rattle.outside.specs.Bytes.{Rose};
 ghost use Rattle.quartz_tree.specs.Kernel.{Kernel};
@@ -25,7 +27,8 @@ const MOST_STEPS: u32 = u32::MAX;
 // Puts the summary of so many steps, whose lines were counted.
 fn put_told<O: Sink>(steps: u32, counted: &CountSink, out: &mut O) -> Status
     ensures out_counts { O.faults out.old ≤ O.faults out.new }
-    ensures written { IsWritten (summary_of steps counted.now) (O.stands out.old) (O.stands out.new) (Rose (O.faults out.old) (O.faults out.new)) result }
+    ensures written { IsWritten (summary_of steps counted.now) (O.stands out.old) (O.stands out.new)
+        (Rose (O.faults out.old) (O.faults out.new)) result }
 {
     match put_summary(out, u64::from(steps), counted) {
         Ok(()) => Status::Ok,
@@ -36,7 +39,9 @@ fn put_told<O: Sink>(steps: u32, counted: &CountSink, out: &mut O) -> Status
 // Ends a run of so many steps, whose lines were counted: where it is done, its summary is put.
 fn end_run<O: Sink>(status: Status, steps: u32, counted: &CountSink, out: &mut O) -> Status
     ensures out_counts { O.faults out.old ≤ O.faults out.new }
-    ensures written { status ≡ Status.Ok → IsWritten (summary_of steps counted.now) (O.stands out.old) (O.stands out.new) (Rose (O.faults out.old) (O.faults out.new)) result }
+    ensures written { status ≡ Status.Ok
+        → IsWritten (summary_of steps counted.now) (O.stands out.old) (O.stands out.new)
+        (Rose (O.faults out.old) (O.faults out.new)) result }
     ensures kept { status ≢ Status.Ok → (result ≡ status) × (out.new ≡ out.old) }
 {
     match status {
@@ -45,9 +50,9 @@ fn end_run<O: Sink>(status: Status, steps: u32, counted: &CountSink, out: &mut O
     }
 }
 
-/// Runs cells on the trace that a seed generates for so many steps, and where the run is done puts two
-/// lines: the number of steps and of the bytes that were written, and the last line. All its memory is
-/// taken before the first step.
+/// Runs cells on the trace that a seed generates for so many steps, and where the run is done puts
+/// two lines: the number of steps and of the bytes that were written, and the last line. All its
+/// memory is taken before the first step.
 pub fn load_cells<O: Sink>(
     alloc: Global,
     aif: &Aif,
@@ -62,9 +67,11 @@ pub fn load_cells<O: Sink>(
     ensures out_counts { O.faults out.old ≤ O.faults out.new }
     ensures no_memory { OnErr result (out.new ≡ out.old) }
     ensures of_load { IfOk result (λ s. IsOfLoad s) }
-    ensures write_fault { IfOk result (λ s. s ≡ Status.WriteFault → Rose (O.faults out.old) (O.faults out.new)) }
+    ensures write_fault { IfOk result
+        (λ s. s ≡ Status.WriteFault → Rose (O.faults out.old) (O.faults out.new)) }
     ensures told { IfOk result (λ s. (vs : Vars) (body : Kernel) → Executes vs body aif.now →
-        Loaded vs body seed steps (O.stands out.old) (O.stands out.new) (Rose (O.faults out.old) (O.faults out.new)) s) }
+        Loaded vs body seed steps (O.stands out.old) (O.stands out.new)
+        (Rose (O.faults out.old) (O.faults out.new)) s) }
 {
     let mut trace = TraceGen::new(alloc, aif.vars.as_slice(), seed, steps)?;
     let mut counted = CountSink::new(alloc)?;

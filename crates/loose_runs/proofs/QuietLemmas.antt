@@ -9,7 +9,8 @@ use Rattle.quartz_expr.specs.Terms.{Term, nothing, pause, write, choose, seq, pa
 use Rattle.aif_cells.specs.Solution.{IsSolution}
 use Rattle.aif_cells.specs.Worth.{Assignment, holds, read, truth}
 use Rattle.absence_reaction.specs.declared.copy.Shape.{Shape}
-use Rattle.absence_reaction.specs.Closing.{flag_of, is_memorized, pending_of, register_of}
+use Rattle.absence_reaction.specs.Closing.{flag_of, pending_of, register_of}
+use Rattle.quartz_tree.specs.Storage.{is_memorized}
 use Rattle.reincarnation.specs.declared.copy.ClosedRefs.{ClosedRefs}
 use Rattle.reincarnation.specs.Carrying.{Stores}
 use Rattle.reincarnation.specs.Meaning.{carried_copy}

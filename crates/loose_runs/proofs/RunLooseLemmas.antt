@@ -29,7 +29,7 @@ use Rattle.macro_steps.proofs.EvaluateLemmas.{order_solves}
 use Rattle.macro_steps.proofs.RangeLemmas.{solution_lies}
 use Rattle.macro_steps.proofs.SoundLemmas.{initial_lie, sound_by}
 use Rattle.loose_runs.specs.Reached.{Reached, at_start, by_step}
-use Rattle.loose_runs.specs.Laws.{FlaggedAt, IsFlagged, IsRunStep, LooseMeetsConflict, RunsEndFlagged, UnflaggedHasNoConflict, UnflaggedVariableHasNoConflict}
+use Rattle.loose_runs.specs.Laws.{FlaggedAt, IsRunStep, LooseMeetsConflict, RunsEndFlagged, UnflaggedHasNoConflict}
 use Rattle.loose_runs.proofs.AddLemmas.{OutputHere, Sited}
 use Rattle.loose_runs.proofs.FaultLemmas.{all_there, least_in, raised_by}
 use Rattle.loose_runs.proofs.EndAddLemmas.{all_sited, final}
@@ -110,11 +110,6 @@ pub unflagged_has_no_conflict : UnflaggedHasNoConflict
 unflagged_has_no_conflict vs body s i o next fs p sound acyclic run free c =
     let a = conflict_flagged vs body sound acyclic s i o next fs _ run c refl in
     free a.var a.known a.place a.flagged
-
-pub unflagged_variable_has_no_conflict : UnflaggedVariableHasNoConflict
-unflagged_variable_has_no_conflict vs body s i o next fs x sound acyclic run differ less free c =
-    let a = conflict_flagged vs body sound acyclic s i o next fs _ run c refl in
-    free (subst (IsFlagged vs (term_of body)) (differ a.var x a.known less a.place) a.flagged)
 
 -- ---- runs
 

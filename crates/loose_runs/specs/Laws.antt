@@ -52,17 +52,7 @@ UnflaggedHasNoConflict = (vs : Vars) (body : Kernel) (s : State) (ins outs : Lis
     → IsSoundModule vs (term_of body) → HasNoCycle (compiled vs (term_of body)).cells → IsRunStep vs body s ins outs next fs
     → NoneFlaggedAt vs (term_of body) p → ¬ Contains fs (record { place = p; kind = Conflict })
 
--- different variables are declared at different places
-abbrev pub PlacesDiffer : Vars → Type 0
-PlacesDiffer vs = (x y : ℕ) → x < length vs → y < length vs → declared_at vs x ≡ declared_at vs y → x ≡ y
-
--- then no step of a run has a conflict of a variable that isn't flagged
-abbrev pub UnflaggedVariableHasNoConflict : Type 0
-UnflaggedVariableHasNoConflict = (vs : Vars) (body : Kernel) (s : State) (ins outs : List (List ℤ)) (next : State) (fs : List Fault) (x : ℕ)
-    → IsSoundModule vs (term_of body) → HasNoCycle (compiled vs (term_of body)).cells → IsRunStep vs body s ins outs next fs
-    → PlacesDiffer vs → x < length vs → ¬ IsFlagged vs (term_of body) x → ¬ Contains fs (record { place = declared_at vs x; kind = Conflict })
-
--- and a run that ends with a conflict ends with one of a flagged variable
+-- a run that ends with a conflict ends at a place where a flagged variable is declared
 abbrev pub RunsEndFlagged : Type 0
 RunsEndFlagged = (vs : Vars) (body : Kernel) (ins outs : List (List (List ℤ))) (f : Fault)
     → IsSoundModule vs (term_of body) → HasNoCycle (compiled vs (term_of body)).cells → AllInputs vs ins → Runs vs body ins outs (Some f) → f.kind ≡ Conflict

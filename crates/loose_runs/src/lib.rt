@@ -1,6 +1,7 @@
-//! Runs and loose pairs: a variable with no loose pair of writes has no conflict at any step of any run.
+//! Runs and loose pairs: no step of any run has a conflict at a place where only variables without
+//! loose pairs of writes are declared.
 #![tactic(auto)]
 
 mod law;
 
-pub use law::{clashing_actions_never_meet, unflagged_variables_have_no_conflict};
+pub use law::{clashing_actions_never_meet, unflagged_places_have_no_conflict};

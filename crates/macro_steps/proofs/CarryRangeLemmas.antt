@@ -11,7 +11,8 @@ use Rattle.aif_cells.specs.declared.reference.Ref.{Ref}
 use Rattle.aif_cells.specs.Solution.{IsSolution}
 use Rattle.aif_cells.specs.Worth.{Assignment, read, truth}
 use Rattle.absence_reaction.specs.declared.copy.Shape.{Shape}
-use Rattle.absence_reaction.specs.Closing.{flag_of, is_memorized, one_if, pending_of, register_of, registers_each}
+use Rattle.absence_reaction.specs.Closing.{flag_of, one_if, pending_of, register_of, registers_each}
+use Rattle.quartz_tree.specs.Storage.{is_memorized}
 use Rattle.reincarnation.specs.declared.copy.ClosedRefs.{ClosedRefs}
 use Rattle.reincarnation.specs.Carrying.{Stores}
 use Rattle.reincarnation.specs.Meaning.{carried_copy}

@@ -12,7 +12,8 @@ use Rattle.aif_cells.specs.declared.cells.Register.{Register}
 use Rattle.aif_cells.specs.Solution.{IsSolution}
 use Rattle.aif_cells.specs.Worth.{Assignment, read}
 use Rattle.absence_reaction.specs.declared.copy.Shape.{Shape}
-use Rattle.absence_reaction.specs.Closing.{is_memorized, one_if}
+use Rattle.absence_reaction.specs.Closing.{one_if}
+use Rattle.quartz_tree.specs.Storage.{is_memorized}
 use Rattle.reincarnation.specs.Carrying.{Stores}
 use Rattle.statement_cells.specs.Labels.{labels, registers, shape_in}
 use Rattle.statement_cells.specs.Builder.{Builder, DepthCopy, one_ref, zero_ref}

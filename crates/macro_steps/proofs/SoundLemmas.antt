@@ -9,7 +9,8 @@ use Rattle.quartz_expr.specs.Terms.{Term}
 use Rattle.quartz_expr.specs.Steps.{outputs_of, State}
 use Rattle.aif_cells.specs.declared.cells.Register.{Register}
 use Rattle.absence_reaction.specs.declared.copy.Shape.{Shape}
-use Rattle.absence_reaction.specs.Closing.{is_memorized, one_if, pending_of, register_of as register_at, registers_each}
+use Rattle.absence_reaction.specs.Closing.{one_if, pending_of, register_of as register_at, registers_each}
+use Rattle.quartz_tree.specs.Storage.{is_memorized}
 use Rattle.statement_cells.specs.Labels.{is_delayed, labels, registers, shape_in}
 use Rattle.statement_cells.specs.Stands.{Registers}
 use Rattle.statement_cells.specs.Whole.{compiled, element_registers, first_output, first_registers, first_scope, output_registers, outputs_registers, register_of, repeated, variable_registers}

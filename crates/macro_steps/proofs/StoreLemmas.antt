@@ -17,7 +17,8 @@ use Rattle.quartz_expr.specs.React.{sequence}
 use Rattle.aif_cells.specs.Worth.{Assignment, holds, worth}
 use Rattle.absence_reaction.specs.declared.copy.Shape.{Shape}
 use Rattle.absence_reaction.specs.declared.copy.VarCopy.{VarCopy}
-use Rattle.absence_reaction.specs.Closing.{flag_of, is_memorized, one_if, pending_of, register_of, registers_each, value_tree}
+use Rattle.absence_reaction.specs.Closing.{flag_of, one_if, pending_of, register_of, registers_each, value_tree}
+use Rattle.quartz_tree.specs.Storage.{is_memorized}
 use Rattle.statement_cells.specs.Labels.{is_delayed, labels, registers, scope_registers, shape_in}
 use Rattle.statement_cells.specs.Builder.{Scoped, absent_from}
 use Rattle.statement_cells.specs.Sound.{IsSound, AreSound}

@@ -4,7 +4,8 @@ use Rattle.quartz_expr.specs.Vars.{Vars, count_of, storage_of}
 use Rattle.quartz_expr.specs.Intervals.{Lies, range_of}
 use Rattle.quartz_expr.specs.Steps.{outputs_of}
 use Rattle.quartz_expr.specs.Terms.{Term, nothing, pause, write, choose, seq, par, loop, abort, suspend, scope, Terms, none, part}
-use Rattle.absence_reaction.specs.Closing.{is_memorized, register_of, pending_of}
+use Rattle.absence_reaction.specs.Closing.{register_of, pending_of}
+use Rattle.quartz_tree.specs.Storage.{is_memorized}
 use Rattle.statement_cells.specs.Labels.{is_delayed, labels, registers, scope_registers, shape_in}
 use Rattle.statement_cells.specs.Stands.{Registers}
 use Rattle.statement_cells.specs.Whole.{first_output, first_scope, variable_registers}

@@ -1,8 +1,7 @@
 -- Gains one after another.
-use Rattle.std.proofs.Common.{Result, Ok, Err, OnErr, ◌≡◌, ◌<◌, ℕ, zero, suc, ◌+◌, List, [], ◌∷◌, ◌++◌, length, take, drop, refl, sym, ap, ◌∙◌, subst, append_assoc, arith}
+use Rattle.std.proofs.Common.{◌≡◌, ◌<◌, ℕ, zero, suc, ◌+◌, List, [], ◌∷◌, ◌++◌, length, take, drop, refl, sym, ap, ◌∙◌, subst, append_assoc, arith}
 use Rattle.std.proofs.Math.Seq.{take-add}
 use Rattle.outside.specs.Bytes.{Gains, GainsBegun, StillStands}
-use Rattle.outside.specs.declared.source.Failed.{Failed}
 
 -- a prefix and then some of what follows it
 pub gains_more : (before mid after : List ℕ → Type 0) (piece : List ℕ) (at n : ℕ) → Gains before mid (take at piece) → Gains mid after (take n (drop at piece)) → Gains before after (take (at + n) piece)
@@ -47,13 +46,3 @@ begun_first before after xs ys (n, h, g) = (n, shorter_first n xs ys h, subst (G
 pub begun_next : (before mid after : List ℕ → Type 0) (xs ys : List ℕ) → Gains before mid xs → GainsBegun mid after ys → GainsBegun before after (xs ++ ys)
 begun_next before mid after xs ys g (n, h, k) =
     (length xs + n, shorter_behind n xs ys h, subst (Gains before after) (sym (take_behind n xs ys)) (gains_both before mid after xs (take n ys) g k))
-
--- what holds anyway holds where there is an error
-pub sure : (r : Result (Unit {0}) Failed) (P : Type 0) → P → OnErr r P
-sure (Ok _) P h = tt
-sure (Err _) P h = h
-
--- the same where an answer came that may be a failure
-pub on_begun : (r : Result (Unit {0}) Failed) (before mid after : List ℕ → Type 0) (xs ys : List ℕ) → Gains before mid xs → OnErr r (GainsBegun mid after ys) → OnErr r (GainsBegun before after (xs ++ ys))
-on_begun (Ok _) before mid after xs ys g h = tt
-on_begun (Err _) before mid after xs ys g h = begun_next before mid after xs ys g h

@@ -1,5 +1,4 @@
-pub mod Arguments
 pub mod Bytes
 pub mod Memory
+pub mod Puts
 pub mod Report
-pub mod Words

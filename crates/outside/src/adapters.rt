@@ -1,3 +1,5 @@
+//! The sources, sinks and shelves over the operating system: readers, writers and files.
+
 ghost use Rattle.std.specs.Prelude.{None, IfOk, ◌<◌, ◌≤◌, length};
 
 use crate::shelf::Shelf;

@@ -1,3 +1,5 @@
+//! Gates, which hold the stages of a pipeline in tests.
+
 /// The events of a pipeline stage.
 #[derive(Clone, Copy, Debug, PartialEq, Eq)]
 pub enum Op {
@@ -7,8 +9,8 @@ pub enum Op {
     PushLink,
 }
 
-/// A hold on the stages of a pipeline, for tests. It is called before each try of a push or pop of a
-/// stage, with the macro step whose values are meant, and answers nothing.
+/// A hold on the stages of a pipeline, for tests. It is called before each try of a push or pop of
+/// a stage, with the macro step whose values are meant, and answers nothing.
 pub trait Gate {
     fn passing(&self, stage: u32, step: u32, op: Op);
 }

@@ -1,9 +1,7 @@
-//! The outside of the compiler: bytes that come and go, texts by name, command words, statuses and
-//! report lines.
+//! The outside of the compiler: bytes that come and go, texts by name, statuses and report lines.
 #![tactic(auto)]
 
 mod adapters;
-mod arguments;
 mod gate;
 mod memory_shelf;
 mod memory_sink;
@@ -12,7 +10,6 @@ mod shelf;
 mod sink;
 mod source;
 mod status;
-mod words;
 
 pub use adapters::{DirShelf, StdSink, StdSource};
 pub use gate::{Gate, NoGate, Op};
@@ -23,4 +20,3 @@ pub use shelf::Shelf;
 pub use sink::{Sink, SureSink, put_whole};
 pub use source::{Failed, Source};
 pub use status::{Status, put_report};
-pub use words::{Command, WordsFault, read_words};

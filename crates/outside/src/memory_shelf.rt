@@ -1,3 +1,5 @@
+//! A shelf in memory.
+
 ghost use Rattle.std.specs.Prelude.{◌≡◌, ◌≤◌, ◌↔◌, ◌⊎◌, [], Some, None, length, IfOk, OnOk, OnErr, IsErr, Contains, if◌then◌else◌, ◌==◌};
 ghost use Rattle.std.specs.Option.{option_copied};
 ghost use Rattle.std.specs.List.{list_any};
@@ -36,10 +38,11 @@ impl Model for MemShelf {
 }
 
 impl MemShelf {
-    /// A shelf without texts. Call j of `fetch`, counted from 0, fails exactly where j is in `fails`
-    /// or the name has no text; the second is no fault.
+    /// A shelf without texts. Call j of `fetch`, counted from 0, fails exactly where j is in
+    /// `fails` or the name has no text; the second is no fault.
     pub fn new(alloc: Global, fails: &[u64]) -> Result<MemShelf, NoMemory>
-        ensures { IfOk result (λ s. s ≡ record { texts = []; fails = fails.now; calls = 0; faults = 0 }) }
+        ensures { IfOk result
+            (λ s. s ≡ record { texts = []; fails = fails.now; calls = 0; faults = 0 }) }
     {
         Ok(MemShelf {
             texts: Vec::new(alloc),
@@ -84,10 +87,15 @@ impl Shelf for MemShelf {
         ensures never_falls { self.old.faults ≤ self.new.faults }
         ensures same_texts { Some (text_of self.new.texts) ≡ Some (text_of self.old.texts) }
         ensures within { IfOk result (λ n. n ≤ length buf.old) }
-        ensures fetched { IfOk result (λ n. Fetched (Some (text_of self.old.texts)) name.now n buf.new) }
-        ensures unfetched { OnErr result (Unfetched (Some (text_of self.old.texts)) name.now self.old.faults self.new.faults) }
-        ensures fails { IsErr result ↔ (Contains self.old.fails self.old.calls ⊎ (text_of self.old.texts name.now ≡ None)) }
-        ensures after { self.new ≡ (if list_any (λ j. j == self.old.calls) self.old.fails then unread self.old else looked_up self.old) }
+        ensures fetched { IfOk result
+            (λ n. Fetched (Some (text_of self.old.texts)) name.now n buf.new) }
+        ensures unfetched { OnErr result
+            (Unfetched (Some (text_of self.old.texts)) name.now self.old.faults self.new.faults) }
+        ensures fails { IsErr result
+            ↔ (Contains self.old.fails self.old.calls ⊎ (text_of self.old.texts name.now ≡ None)) }
+        ensures after { self.new
+            ≡ (if list_any (λ j. j == self.old.calls) self.old.fails
+            then unread self.old else looked_up self.old) }
     {
         let fails = self.fails.contains(&self.calls);
         self.calls = self.calls.saturating_add(1);

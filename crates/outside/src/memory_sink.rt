@@ -1,3 +1,5 @@
+//! A sink in memory.
+
 ghost use Rattle.std.specs.Prelude.{◌≡◌, ◌<◌, ◌≤◌, ◌+◌, ◌-◌, ◌↔◌, ◌⊎◌, [], length, take, min, IfOk, OnErr, IsErr, Contains};
 ghost use Rattle.outside.specs.Bytes.{Rose, Gains, StillStands};
 ghost use Rattle.outside.specs.Memory.{filled, refused};
@@ -8,8 +10,8 @@ use quartz_tree::NoMemory;
 use std::alloc::Global;
 use std::marker::Model;
 
-/// A sink in memory with room for a number of bytes, of which some calls fail. It stands for the one
-/// list of the bytes that it holds.
+/// A sink in memory with room for a number of bytes, of which some calls fail. It stands for the
+/// one list of the bytes that it holds.
 #[derive(Debug, Drop)]
 pub struct MemSink {
     bytes: Vec<u8>,
@@ -34,7 +36,14 @@ impl MemSink {
     /// An empty sink. Call j of `put`, counted from 0, fails exactly where j is in `fails` or the
     /// sink already holds `room` bytes. The room's memory is taken here.
     pub fn new(alloc: Global, room: u64, fails: &[u64]) -> Result<MemSink, NoMemory>
-        ensures { IfOk result (λ s. s ≡ record { bytes = []; room = room; fails = fails.now; calls = 0; faults = 0 }) }
+        ensures { IfOk result
+            (λ s. s ≡ record {
+              bytes = [];
+              room = room;
+              fails = fails.now;
+              calls = 0;
+              faults = 0;
+            }) }
     {
         let room = room as usize;
         Ok(MemSink {
@@ -63,11 +72,17 @@ impl Sink for MemSink {
         requires { 0 < length piece.now }
         ensures never_falls { self.old.faults ≤ self.new.faults }
         ensures within { IfOk result (λ n. (0 < n) × (n ≤ length piece.now)) }
-        ensures gained { IfOk result (λ n. Gains (λ bs. bs ≡ self.old.bytes) (λ bs. bs ≡ self.new.bytes) (take n piece.now)) }
+        ensures gained { IfOk result
+            (λ n. Gains (λ bs. bs ≡ self.old.bytes) (λ bs. bs ≡ self.new.bytes)
+            (take n piece.now)) }
         ensures rose { OnErr result (Rose self.old.faults self.new.faults) }
-        ensures kept { OnErr result (StillStands (λ bs. bs ≡ self.old.bytes) (λ bs. bs ≡ self.new.bytes)) }
-        ensures fails { IsErr result ↔ (Contains self.old.fails self.old.calls ⊎ (self.old.room ≤ length self.old.bytes)) }
-        ensures ok { IfOk result (λ n. (n ≡ min (length piece.now) (self.old.room - length self.old.bytes)) × (self.new ≡ filled self.old (take n piece.now))) }
+        ensures kept { OnErr result
+            (StillStands (λ bs. bs ≡ self.old.bytes) (λ bs. bs ≡ self.new.bytes)) }
+        ensures fails { IsErr result
+            ↔ (Contains self.old.fails self.old.calls ⊎ (self.old.room ≤ length self.old.bytes)) }
+        ensures ok { IfOk result
+            (λ n. (n ≡ min (length piece.now) (self.old.room - length self.old.bytes))
+            × (self.new ≡ filled self.old (take n piece.now))) }
         ensures err { OnErr result (self.new ≡ refused self.old) }
     {
         let fails = self.fails.contains(&self.calls);

@@ -1,3 +1,5 @@
+//! Sources in memory.
+
 ghost use Rattle.std.specs.Prelude.{◌≡◌, ◌<◌, ◌≤◌, ◌↔◌, Some, None, drop, length, IfOk, OnErr, IsErr, IfSome, Contains, All};
 ghost use Rattle.outside.specs.Bytes.{Rose, Moved, Counted};
 ghost use Rattle.outside.specs.Memory.{piece_bound, portion, supplied, missed};
@@ -40,7 +42,14 @@ impl MemSource {
         fails: &[u64],
     ) -> Result<MemSource, NoMemory>
         requires { All (λ n. 1 ≤ n) pieces.now }
-        ensures { IfOk result (λ s. s ≡ record { left = bytes.now; pieces = pieces.now; fails = fails.now; calls = 0; faults = 0 }) }
+        ensures { IfOk result
+            (λ s. s ≡ record {
+              left = bytes.now;
+              pieces = pieces.now;
+              fails = fails.now;
+              calls = 0;
+              faults = 0;
+            }) }
     {
         Ok(MemSource {
             bytes: bytes.to_vec(alloc)?,
@@ -144,11 +153,13 @@ impl Source for MemSource {
         ensures never_falls { self.old.faults ≤ self.new.faults }
         ensures counted { Counted (Some self.old.calls) (Some self.new.calls) }
         ensures within { IfOk result (λ n. n ≤ length buf.old) }
-        ensures moved { IfOk result (λ n. Moved (Some self.old.left) (Some self.new.left) n buf.new) }
+        ensures moved { IfOk result
+            (λ n. Moved (Some self.old.left) (Some self.new.left) n buf.new) }
         ensures rose { OnErr result (Rose self.old.faults self.new.faults) }
         ensures kept { OnErr result (Some self.new.left ≡ Some self.old.left) }
         ensures fails { IsErr result ↔ Contains self.old.fails self.old.calls }
-        ensures ok { IfOk result (λ n. (n ≡ portion self.old (length buf.old)) × (self.new ≡ supplied self.old n)) }
+        ensures ok { IfOk result
+            (λ n. (n ≡ portion self.old (length buf.old)) × (self.new ≡ supplied self.old n)) }
         ensures err { OnErr result (self.new ≡ missed self.old) }
     {
         let most = self.portion(buf.len());

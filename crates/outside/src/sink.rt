@@ -1,5 +1,8 @@
-ghost use Rattle.std.specs.Prelude.{◌≡◌, ℕ, ◌<◌, ◌≤◌, List, length, take, IfOk, OnOk, OnErr};
-ghost use Rattle.outside.specs.Bytes.{Rose, Gains, GainsBegun, StillStands};
+//! What a sink owes: bytes that go outside.
+
+ghost use Rattle.std.specs.Prelude.{◌≡◌, ℕ, ◌<◌, ◌≤◌, List, length, take, IfOk, OnErr};
+ghost use Rattle.outside.specs.Bytes.{Rose, Gains, StillStands};
+ghost use Rattle.outside.specs.Puts.{Puts};
 
 use crate::source::Failed;
 
@@ -16,7 +19,8 @@ pub trait Sink {
         requires some { 0 < length piece.now }
         ensures never_falls { faults self.old ≤ faults self.new }
         ensures within { IfOk result (λ n. (0 < n) × (n ≤ length piece.now)) }
-        ensures gained { IfOk result (λ n. Gains (stands self.old) (stands self.new) (take n piece.now)) }
+        ensures gained { IfOk result
+            (λ n. Gains (stands self.old) (stands self.new) (take n piece.now)) }
         ensures rose { OnErr result (Rose (faults self.old) (faults self.new)) }
         ensures kept { OnErr result (StillStands (stands self.old) (stands self.new)) };
 }
@@ -37,10 +41,7 @@ impl Sink for SureSink {
 
 /// Puts the whole piece, the rest again while the sink takes less. An empty piece is not put.
 pub fn put_whole<O: Sink>(out: &mut O, piece: &[u8]) -> Result<(), Failed>
-    ensures never_falls { O.faults out.old ≤ O.faults out.new }
-    ensures gained { OnOk result (Gains (O.stands out.old) (O.stands out.new) piece.now) }
-    ensures rose { OnErr result (Rose (O.faults out.old) (O.faults out.new)) }
-    ensures begun { OnErr result (GainsBegun (O.stands out.old) (O.stands out.new) piece.now) }
+    ensures { Puts O.stands O.faults result out.old out.new piece.now }
 {
     let mut at = 0;
     while at < piece.len() {

@@ -1,3 +1,5 @@
+//! What a source owes: bytes that come from outside.
+
 ghost use Rattle.std.specs.Prelude.{◌≡◌, ℕ, ◌<◌, ◌≤◌, List, Option, length, IfOk, OnErr};
 ghost use Rattle.outside.specs.Bytes.{Rose, Moved, Counted};
 

@@ -1,5 +1,7 @@
-ghost use Rattle.std.specs.Prelude.{◌≡◌, ◌≤◌, ◌++◌, decimal, codes, OnOk, OnErr};
-ghost use Rattle.outside.specs.Bytes.{Rose, Gains, GainsBegun};
+//! How a command ended: its number and its report line.
+
+ghost use Rattle.std.specs.Prelude.{◌≡◌, ◌++◌, decimal, codes};
+ghost use Rattle.outside.specs.Puts.{Puts};
 ghost use Rattle.outside.specs.Report.{number_of, line_end, place_text, kind_text as kind_codes, report_line};
 
 use crate::sink::{Sink, put_whole};
@@ -56,22 +58,15 @@ impl Status {
 }
 
 fn put_number<E: Sink>(report: &mut E, number: u32) -> Result<(), Failed>
-    ensures never_falls { E.faults report.old ≤ E.faults report.new }
-    ensures gained { OnOk result (Gains (E.stands report.old) (E.stands report.new) (decimal number)) }
-    ensures rose { OnErr result (Rose (E.faults report.old) (E.faults report.new)) }
-    ensures begun { OnErr result (GainsBegun (E.stands report.old) (E.stands report.new) (decimal number)) }
+    ensures { Puts E.stands E.faults result report.old report.new (decimal number) }
 {
     let mut digits = Buffer::new();
     put_whole(report, digits.format(number).as_bytes())
 }
 
 // What a report says of a place: its line, a colon and its column, and the line's end.
-#[tactic(auto, using(crate::proofs::GainsLemmas::begun_first))]
 fn put_place<E: Sink>(report: &mut E, place: Place) -> Result<(), Failed>
-    ensures never_falls { E.faults report.old ≤ E.faults report.new }
-    ensures gained { OnOk result (Gains (E.stands report.old) (E.stands report.new) (place_text place)) }
-    ensures rose { OnErr result (Rose (E.faults report.old) (E.faults report.new)) }
-    ensures begun { OnErr result (GainsBegun (E.stands report.old) (E.stands report.new) (place_text place)) }
+    ensures { Puts E.stands E.faults result report.old report.new (place_text place) }
 {
     put_number(report, place.line)?;
     put_whole(report, b":")?;
@@ -91,12 +86,9 @@ fn kind_text(kind: Kind) -> &'static [u8]
 }
 
 // A text, a step and the line's end.
-#[tactic(auto, using(crate::proofs::GainsLemmas::begun_first))]
 fn put_step<E: Sink>(report: &mut E, text: &[u8], step: u32) -> Result<(), Failed>
-    ensures never_falls { E.faults report.old ≤ E.faults report.new }
-    ensures gained { OnOk result (Gains (E.stands report.old) (E.stands report.new) (text.now ++ (decimal step ++ line_end))) }
-    ensures rose { OnErr result (Rose (E.faults report.old) (E.faults report.new)) }
-    ensures begun { OnErr result (GainsBegun (E.stands report.old) (E.stands report.new) (text.now ++ (decimal step ++ line_end))) }
+    ensures { Puts E.stands E.faults result report.old report.new
+        (text.now ++ (decimal step ++ line_end)) }
 {
     put_whole(report, text)?;
     put_number(report, step)?;
@@ -104,7 +96,6 @@ fn put_step<E: Sink>(report: &mut E, text: &[u8], step: u32) -> Result<(), Faile
 }
 
 // A text, a number, another text and a place.
-#[tactic(auto, using(crate::proofs::GainsLemmas::begun_first))]
 fn put_number_at<E: Sink>(
     report: &mut E,
     text: &[u8],
@@ -112,10 +103,8 @@ fn put_number_at<E: Sink>(
     between: &[u8],
     place: Place,
 ) -> Result<(), Failed>
-    ensures never_falls { E.faults report.old ≤ E.faults report.new }
-    ensures gained { OnOk result (Gains (E.stands report.old) (E.stands report.new) (text.now ++ (decimal number ++ (between.now ++ place_text place)))) }
-    ensures rose { OnErr result (Rose (E.faults report.old) (E.faults report.new)) }
-    ensures begun { OnErr result (GainsBegun (E.stands report.old) (E.stands report.new) (text.now ++ (decimal number ++ (between.now ++ place_text place)))) }
+    ensures { Puts E.stands E.faults result report.old report.new
+        (text.now ++ (decimal number ++ (between.now ++ place_text place))) }
 {
     put_whole(report, text)?;
     put_number(report, number)?;
@@ -124,7 +113,6 @@ fn put_number_at<E: Sink>(
 }
 
 // A text, the name of a kind of fault, its step and its place.
-#[tactic(auto, using(crate::proofs::GainsLemmas::begun_first))]
 fn put_fault<E: Sink>(
     report: &mut E,
     text: &[u8],
@@ -132,10 +120,9 @@ fn put_fault<E: Sink>(
     step: u32,
     place: Place,
 ) -> Result<(), Failed>
-    ensures never_falls { E.faults report.old ≤ E.faults report.new }
-    ensures gained { OnOk result (Gains (E.stands report.old) (E.stands report.new) (text.now ++ (kind_codes kind ++ (codes " at step " ++ (decimal step ++ (codes ", " ++ place_text place)))))) }
-    ensures rose { OnErr result (Rose (E.faults report.old) (E.faults report.new)) }
-    ensures begun { OnErr result (GainsBegun (E.stands report.old) (E.stands report.new) (text.now ++ (kind_codes kind ++ (codes " at step " ++ (decimal step ++ (codes ", " ++ place_text place)))))) }
+    ensures { Puts E.stands E.faults result report.old report.new
+        (text.now ++ (kind_codes kind
+        ++ (codes " at step " ++ (decimal step ++ (codes ", " ++ place_text place))))) }
 {
     put_whole(report, text)?;
     put_whole(report, kind_text(kind))?;
@@ -144,10 +131,7 @@ fn put_fault<E: Sink>(
 
 /// Puts the report line of a status, which is empty for `Ok`.
 pub fn put_report<E: Sink>(status: &Status, report: &mut E) -> Result<(), Failed>
-    ensures never_falls { E.faults report.old ≤ E.faults report.new }
-    ensures gained { OnOk result (Gains (E.stands report.old) (E.stands report.new) (report_line status.now)) }
-    ensures rose { OnErr result (Rose (E.faults report.old) (E.faults report.new)) }
-    ensures begun { OnErr result (GainsBegun (E.stands report.old) (E.stands report.new) (report_line status.now)) }
+    ensures { Puts E.stands E.faults result report.old report.new (report_line status.now) }
 {
     match *status {
         Status::Ok => put_whole(report, b""),

@@ -1,3 +1,5 @@
+//! The whole build of a text: its cells, their order and its loose pairs.
+
 ghost use Rattle.std.specs.Prelude.{◌≡◌, true, false, IfOk};
 ghost use Rattle.aif_cells.specs.Built.{all_defined};
 ghost use Rattle.aif_cells.specs.Order.{IsOrder};
@@ -93,9 +95,9 @@ fn build_strictly(
     }
 }
 
-/// Builds the only module of a text, or answers the first of the rules S1 to S9 that it breaks. With `is_strict` a
-/// loose pair of writes breaks S10. Behind S1 and S2 a text of several modules or with a call is refused by rule 0,
-/// since calls are not linked yet.
+/// Builds the only module of a text, or answers the first of the rules S1 to S9 that it breaks.
+/// With `is_strict` a loose pair of writes breaks S10. Behind S1 and S2 a text of several modules
+/// or with a call is refused by rule 0, since calls are not linked yet.
 pub fn build(
     alloc: Global,
     text: &[u8],

@@ -1,3 +1,5 @@
+//! Why a text is not built.
+
 ghost use Rattle.std.specs.Prelude.{◌≡◌};
 ghost use Rattle.quartz_build.specs.Refusals.{compile_refusal, lex_refusal, names_refusal, order_refusal, parse_refusal, types_refusal};
 ghost use Rattle.quartz_build.specs.declared.fault.BuildFault.TheVariants.{NoMemory as no_memory};

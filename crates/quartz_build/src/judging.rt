@@ -1,3 +1,5 @@
+//! A text judged by the rules S1 to S7, one after another.
+
 ghost use Rattle.std.specs.Prelude.{◌≡◌, ◌∷◌, [], map};
 ghost use Rattle.quartz_tree.specs.Surfaces.{module_tree};
 ghost use Rattle.quartz_names.specs.Numbered.{IsResolved};
@@ -63,8 +65,9 @@ fn judge_tokens(alloc: Global, tokens: &Tokens, text: &[u8]) -> Result<Typed, Bu
     }
 }
 
-/// Reads a text as a typed module, or answers the first of the rules S1 to S7 that it breaks. Behind S1 and S2 a
-/// text of several modules or with a call is refused by rule 0, since calls are not linked yet.
+/// Reads a text as a typed module, or answers the first of the rules S1 to S7 that it breaks.
+/// Behind S1 and S2 a text of several modules or with a call is refused by rule 0, since calls are
+/// not linked yet.
 pub fn front(alloc: Global, text: &[u8]) -> Result<Typed, BuildFault>
     ensures { FrontAs text.now result }
 {

@@ -1,5 +1,5 @@
-//! The whole build of a module from its text: its cells, their order, and which writes may conflict; or the first
-//! static rule that the text breaks.
+//! The whole build of a module from its text: its cells, their order, and which writes may
+//! conflict; or the first static rule that the text breaks.
 #![tactic(auto)]
 
 mod building;

@@ -1,3 +1,5 @@
+//! Writes that act on one element, and what an element keeps between macro steps.
+
 /// What a variable keeps of one element from one macro step to the next.
 #[derive(Clone, Copy, Debug, PartialEq, Eq)]
 pub struct Kept {

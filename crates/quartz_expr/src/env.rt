@@ -1,3 +1,5 @@
+//! Environments: the values of variables in a macro step.
+
 ghost use Rattle.std.specs.Prelude.{◌≡◌};
 ghost use Rattle.quartz_expr.specs.Values.{element_at, elements_in};
 

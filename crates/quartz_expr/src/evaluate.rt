@@ -1,3 +1,5 @@
+//! The value, the kind and the least fault of an expression.
+
 ghost use Rattle.std.specs.Prelude.{◌≡◌, ◌<◌, ◌≤◌, ◌≤ℤ◌, pos};
 ghost use Rattle.quartz_tree.specs.Least.{least_fault, lesser_fault};
 ghost use Rattle.quartz_tree.specs.Tree.{tree};
@@ -134,7 +136,11 @@ fn sound(value: i64, kind: Option<ExprKind>) -> Found
 
 // A choice of that kind whose side was evaluated behind its condition.
 fn chosen(cond: Found, side: Found, kind: Option<ExprKind>) -> Found
-    ensures { result ≡ record { value = side.value; kind = kind; fault = lesser_fault cond.fault side.fault } }
+    ensures { result ≡ record {
+      value = side.value;
+      kind = kind;
+      fault = lesser_fault cond.fault side.fault;
+    } }
 {
     Found {
         value: side.value,

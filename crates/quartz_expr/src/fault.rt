@@ -1,3 +1,5 @@
+//! The faults of indices and divisors, and the order of faults.
+
 ghost use Rattle.std.specs.Prelude.{◌≡◌};
 ghost use Rattle.quartz_tree.specs.Least.{is_sooner, least_fault, lesser_fault, rank};
 ghost use Rattle.quartz_expr.specs.Vars.{count_of};

@@ -1,3 +1,5 @@
+//! The kinds of expressions.
+
 ghost use Rattle.std.specs.Prelude.{◌≡◌, ◌&&◌, not};
 ghost use Rattle.quartz_tree.specs.Tree.{tree};
 ghost use Rattle.quartz_tree.specs.declared.expr.Binary.TheVariants.{Cat};
@@ -183,7 +185,8 @@ pub fn kind_of_name(var: u32, vars: &[Var]) -> Option<ExprKind>
 
 /// The kind of `x[i]`.
 pub fn kind_of_element(var: u32, index: Option<ExprKind>, vars: &[Var]) -> Option<ExprKind>
-    ensures { result ≡ kind_with index (λ k. kind_if (is_array vars.now var && is_numeric k) (kind_of_base (base_of vars.now var))) }
+    ensures { result ≡ kind_with index (λ k.
+        kind_if (is_array vars.now var && is_numeric k) (kind_of_base (base_of vars.now var))) }
 {
     kind_if(
         array_length(vars, var).is_some() && is_numeric(index?),

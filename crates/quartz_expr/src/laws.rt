@@ -2,8 +2,8 @@
 
 ghost use Rattle.quartz_expr.specs.Laws.{CoherenceIsSoundness, ConflictsAreDifferences, DelayedAbortStartsAsItsBody, NotInstantStays, ReactionIsOne, RunsLookBack, SequenceActsInOrder, StatementsAreFresh, StrongAbortDoesNothing, StrongSuspensionDoesNothing, TickOfFreshTerm};
 
-/// A term, an environment and a list of values for its scopes have at most one reaction, and it uses a
-/// front of the list.
+/// A term, an environment and a list of values for its scopes have at most one reaction, and it
+/// uses a front of the list.
 #[tactic(auto, using(crate::proofs::LawLemmas::reaction_one))]
 pub fn reaction_is_one()
     ensures { ReactionIsOne }
@@ -53,8 +53,8 @@ pub fn runs_look_back()
     ensures { RunsLookBack }
 {}
 
-/// A now-value differs from the element's value exactly where two of its now-values and its pending value
-/// differ.
+/// A now-value differs from the element's value exactly where two of its now-values and its pending
+/// value differ.
 #[tactic(auto, using(crate::proofs::LawLemmas::conflict_is))]
 pub fn conflicts_are_differences()
     ensures { ConflictsAreDifferences }

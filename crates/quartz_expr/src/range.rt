@@ -1,3 +1,5 @@
+//! The ranges of types.
+
 ghost use Rattle.std.specs.Prelude.{◌≡◌, true};
 ghost use Rattle.quartz_expr.specs.Intervals.{base_interval, is_sound_base, is_sound_length, range_of, span, type_interval};
 

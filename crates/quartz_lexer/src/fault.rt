@@ -1,3 +1,5 @@
+//! Why a text has no tokens.
+
 ghost use Rattle.std.specs.Prelude.{◌≡◌};
 ghost use Rattle.quartz_lexer.specs.declared.fault.LexFault.TheVariants.{NoMemory as no_memory};
 
@@ -8,8 +10,8 @@ use thiserror::Error;
 /// Why a text has no tokens.
 #[derive(Clone, Copy, Debug, PartialEq, Eq, Error)]
 pub enum LexFault {
-    /// The text is too long, or at this place stands a byte that begins no token, a number of too many digits or a
-    /// comment that isn't closed.
+    /// The text is too long, or at this place stands a byte that begins no token, a number of too
+    /// many digits or a comment that isn't closed.
     #[error("S1 at {}:{}", .0.line, .0.col)]
     S1(Place),
     #[error("no memory")]

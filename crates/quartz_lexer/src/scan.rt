@@ -1,3 +1,5 @@
+//! A text is cut into its tokens from the left.
+
 ghost use Rattle.std.specs.Prelude.{◌≡◌, ◌<◌, ◌≤◌, ◌+◌, ◌^◌, length, IfOk, OnOk, IsErrOf};
 ghost use Rattle.quartz_tree.specs.declared.place.Place.{Place};
 ghost use Rattle.quartz_lexer.specs.Lexing.{place_after, AreTokensOf, Breaks, HasOneOutcome};

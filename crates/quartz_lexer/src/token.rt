@@ -1,3 +1,5 @@
+//! Tokens, and where they stand in their text.
+
 use quartz_tree::Place;
 
 /// The kinds of token. Which keyword or sign a token is, is said by its text.
@@ -13,7 +15,8 @@ pub enum TokenKind {
     Sign,
 }
 
-/// A token of a text: its bytes are those from `start` to before `end`, and `place` is the first byte's.
+/// A token of a text: its bytes are those from `start` to before `end`, and `place` is the first
+/// byte's.
 #[derive(Clone, Copy, Debug, PartialEq, Eq)]
 pub struct Token {
     pub kind: TokenKind,

@@ -1,3 +1,5 @@
+//! Whether a statement calls a module.
+
 ghost use Rattle.std.specs.Prelude.{◌≡◌, map};
 ghost use Rattle.quartz_tree.specs.Surfaces.{branch, written};
 ghost use Rattle.quartz_names.specs.Resolving.{branch_has_call, has_call};

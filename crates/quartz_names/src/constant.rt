@@ -1,3 +1,5 @@
+//! The constants of declarations, and the start values that they give.
+
 ghost use Rattle.std.specs.Prelude.{◌≡◌, true};
 ghost use Rattle.quartz_expr.specs.Intervals.{is_in, type_interval};
 ghost use Rattle.quartz_names.specs.Starts.{constant_value, has_kind_of, is_sound_constant, is_within, start_value};

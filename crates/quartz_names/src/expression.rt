@@ -1,3 +1,5 @@
+//! Names in expressions: those that stand for nothing, and the numbers of the others.
+
 ghost use Rattle.std.specs.Prelude.{◌≡◌, IfOk};
 ghost use Rattle.quartz_tree.specs.Least.{least_place};
 ghost use Rattle.quartz_tree.specs.Tree.{tree};

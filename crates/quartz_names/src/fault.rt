@@ -1,3 +1,5 @@
+//! Why the names of a module have no numbers.
+
 ghost use Rattle.std.specs.Prelude.{◌≡◌};
 ghost use Rattle.quartz_names.specs.declared.fault.NamesFault.TheVariants.{NoMemory as no_memory};
 

@@ -1,3 +1,5 @@
+//! Statements over numbers, made of their parts.
+
 ghost use Rattle.std.specs.Prelude.{◌≡◌, ◌-◌, ◌≤◌, IfOk, map};
 ghost use Rattle.quartz_names.specs.Numbering.{around, joined};
 ghost use Rattle.quartz_tree.specs.Kernel.{choose, guard, kernel, kernels, loop, nothing};
@@ -55,7 +57,8 @@ pub(crate) fn guarded(
     })
 }
 
-/// A Local around the statement for each variable from `first` to before `end`, the first outermost.
+/// A Local around the statement for each variable from `first` to before `end`, the first
+/// outermost.
 #[tactic(auto, using(crate::proofs::KernelLemmas::kernel_local))]
 pub(crate) fn around(alloc: Global, first: u32, end: u32, body: Stmt) -> Result<Stmt, NoMemory>
     requires { first ≤ end }

@@ -1,3 +1,5 @@
+//! What names stand for at a point of a walk.
+
 ghost use Rattle.std.specs.Prelude.{◌≡◌, OnOk, Some};
 ghost use Rattle.quartz_names.specs.Scopes.{no_names, standing};
 ghost use Rattle.quartz_names.specs.Walks.{scope_of};

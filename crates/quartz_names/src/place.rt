@@ -1,14 +1,10 @@
+//! The lesser of two places.
+
 ghost use Rattle.std.specs.Prelude.{◌≡◌};
 ghost use Rattle.quartz_expr.specs.Kinds.{place_if};
-ghost use Rattle.quartz_tree.specs.Least.{is_before, least_place, lesser_place};
+ghost use Rattle.quartz_tree.specs.Least.{least_place, lesser_place};
 
 use quartz_tree::Place;
-
-fn is_before(p: Place, q: Place) -> bool
-    ensures { result ≡ is_before p q }
-{
-    p.line < q.line || (p.line == q.line && p.col < q.col)
-}
 
 /// The lesser of two places, and the first where neither is.
 pub fn lesser_place(p: Option<Place>, q: Option<Place>) -> Option<Place>
@@ -17,7 +13,7 @@ pub fn lesser_place(p: Option<Place>, q: Option<Place>) -> Option<Place>
     match (p, q) {
         (None, _) => q,
         (Some(_), None) => p,
-        (Some(first), Some(second)) => { if is_before(second, first) { q } else { p } }
+        (Some(first), Some(second)) => { if second.is_before(first) { q } else { p } }
     }
 }
 

@@ -1,3 +1,5 @@
+//! A module with its names replaced by numbers.
+
 ghost use Rattle.std.specs.Prelude.{◌≡◌, ◌^◌, ◌<◌, IfOk, IsErrOf, None, OnOk, Some, [], false, length, true};
 ghost use Rattle.quartz_tree.specs.declared.place.Place.{Place};
 ghost use Rattle.quartz_tree.specs.Kernel.{kernel};
@@ -28,7 +30,11 @@ pub struct Resolved {
 
 // The variable of a declaration.
 fn variable(alloc: Global, decl: &Decl, delayed: bool) -> Result<Var, NoMemory>
-    ensures { IfOk result (λ v. v ≡ record { decl = decl.now; delayed = delayed; start = start_value decl.now }) }
+    ensures { IfOk result (λ v. v ≡ record {
+      decl = decl.now;
+      delayed = delayed;
+      start = start_value decl.now;
+    }) }
 {
     Ok(Var {
         decl: decl.copied(alloc)?,
@@ -58,7 +64,8 @@ fn walk_module(alloc: Global, walk: &mut Walk, module: &Module) -> Result<Stmt, 
     requires broken { walk.old.broken ≡ None }
     ensures body { IfOk result (λ k. kernel k ≡ resolved_body (module_tree «module».now)) }
     ensures decls { OnOk result (walk.new.decls ≡ declarations (module_tree «module».now)) }
-    ensures broken { OnOk result (walk.new.broken ≡ least_place (module_name_breaks (module_tree «module».now))) }
+    ensures broken { OnOk result (walk.new.broken
+        ≡ least_place (module_name_breaks (module_tree «module».now))) }
 {
     walk.open(alloc, &module.params)?;
     let expanded = expand(alloc, &module.body)?;
@@ -79,8 +86,10 @@ pub fn resolve(alloc: Global, module: &Module) -> Result<Resolved, NamesFault>
     ensures resolves { IfOk result (λ r. Resolves «module».now r) }
     ensures resolved { IfOk result (λ r. IsResolved r) }
     ensures numbered { IfOk result (λ r. is_numbered r.vars (kernel r.body) ≡ true) }
-    ensures unbroken { OnOk result (least_place (module_name_breaks (module_tree «module».now)) ≡ None) }
-    ensures broken { (p : Place) → IsErrOf result (NamesFault.S3 p) → least_place (module_name_breaks (module_tree «module».now)) ≡ Some p }
+    ensures unbroken { OnOk result
+        (least_place (module_name_breaks (module_tree «module».now)) ≡ None) }
+    ensures broken { (p : Place) → IsErrOf result (NamesFault.S3 p) →
+        least_place (module_name_breaks (module_tree «module».now)) ≡ Some p }
 {
     let mut walk = Walk::new(alloc);
     let body = walk_module(alloc, &mut walk, module)?;

@@ -1,3 +1,5 @@
+//! The variables that delayed writes target.
+
 ghost use Rattle.std.specs.Prelude.{◌≡◌, ◌++◌, ◌<◌, ℕ, IfOk, OnOk, false, length, map, slice_index_or};
 ghost use Rattle.quartz_tree.specs.Kernel.{kernel, kernels};
 ghost use Rattle.quartz_names.specs.Targets.{all_next_targets, is_among, next_targets};
@@ -11,7 +13,8 @@ use std::alloc::Global;
 #[cycle(targets)]
 #[tactic(auto, using(crate::proofs::TargetLemmas::targets_unscoped))]
 fn add_targets(targets: &mut Vec<u32>, stmt: &Stmt) -> Result<(), NoMemory>
-    ensures { OnOk result (targets.new.items ≡ targets.old.items ++ next_targets (kernel stmt.now)) }
+    ensures { OnOk result (targets.new.items ≡ targets.old.items
+        ++ next_targets (kernel stmt.now)) }
 {
     add_targets_inside(targets, unscoped(stmt))?;
     Ok(())
@@ -20,7 +23,8 @@ fn add_targets(targets: &mut Vec<u32>, stmt: &Stmt) -> Result<(), NoMemory>
 // Adds the targets of a statement without the scopes around it.
 #[cycle(targets)]
 fn add_targets_inside(targets: &mut Vec<u32>, stmt: &Stmt) -> Result<(), NoMemory>
-    ensures { OnOk result (targets.new.items ≡ targets.old.items ++ next_targets (kernel stmt.now)) }
+    ensures { OnOk result (targets.new.items ≡ targets.old.items
+        ++ next_targets (kernel stmt.now)) }
 {
     match stmt {
         Stmt::Nothing | Stmt::Pause => Ok(()),
@@ -48,7 +52,8 @@ fn add_targets_inside(targets: &mut Vec<u32>, stmt: &Stmt) -> Result<(), NoMemor
 
 #[cycle(targets)]
 fn add_all_targets(targets: &mut Vec<u32>, stmts: &[Stmt]) -> Result<(), NoMemory>
-    ensures { OnOk result (targets.new.items ≡ targets.old.items ++ all_next_targets (kernels (map kernel stmts.now))) }
+    ensures { OnOk result (targets.new.items ≡ targets.old.items
+        ++ all_next_targets (kernels (map kernel stmts.now))) }
 {
     for stmt in stmts {
         add_targets(targets, stmt)?;
@@ -63,7 +68,8 @@ pub(crate) fn delayed_flags(
     count: usize,
 ) -> Result<Items<bool>, NoMemory>
     ensures length { IfOk result (λ flags. length flags ≡ count) }
-    ensures flags { IfOk result (λ flags. (x : ℕ) → x < count → slice_index_or flags x false ≡ is_among (next_targets (kernel stmt.now)) x) }
+    ensures flags { IfOk result (λ flags. (x : ℕ) → x < count →
+        slice_index_or flags x false ≡ is_among (next_targets (kernel stmt.now)) x) }
 {
     let mut targets = Vec::new(alloc);
     add_targets(&mut targets, stmt)?;

@@ -1,3 +1,5 @@
+//! The walk through a module that gives names their numbers.
+
 ghost use Rattle.std.specs.Prelude.{◌≡◌, ◌++◌, [], ◌∷◌, IfOk, None, OnOk, Some, length, map, option_map};
 ghost use Rattle.quartz_tree.specs.Kernel.{kernel};
 ghost use Rattle.quartz_tree.specs.Least.{least_place, lesser_place};
@@ -67,8 +69,10 @@ impl Walk {
 
     // Declares a variable with the next number.
     fn declare(&mut self, alloc: Global, decl: &Decl) -> Result<Hidden, NoMemory>
-        ensures hidden { IfOk result (λ h. h ≡ record { name = decl.now.name; number = scope_in self.old decl.now.name }) }
-        ensures names { OnOk result (scope_in self.new ≡ standing (scope_in self.old) decl.now.name (Some (count_in self.old))) }
+        ensures hidden { IfOk result (λ h.
+            h ≡ record { name = decl.now.name; number = scope_in self.old decl.now.name }) }
+        ensures names { OnOk result (scope_in self.new
+            ≡ standing (scope_in self.old) decl.now.name (Some (count_in self.old))) }
         ensures decls { OnOk result (self.new.decls ≡ self.old.decls ++ decl.now ∷ []) }
         ensures broken { self.new.broken ≡ self.old.broken }
     {
@@ -84,10 +88,13 @@ impl Walk {
 
     /// Declares the variables of one list, and gives what their names stood for.
     pub(crate) fn open(&mut self, alloc: Global, decls: &[Decl]) -> Result<Vec<Hidden>, NoMemory>
-        ensures hidden { IfOk result (λ hs. hs.items ≡ hidden_by (scope_in self.old) (count_in self.old) decls.now) }
-        ensures names { OnOk result (scope_in self.new ≡ declared (scope_in self.old) (count_in self.old) decls.now) }
+        ensures hidden { IfOk result (λ hs.
+            hs.items ≡ hidden_by (scope_in self.old) (count_in self.old) decls.now) }
+        ensures names { OnOk result (scope_in self.new
+            ≡ declared (scope_in self.old) (count_in self.old) decls.now) }
         ensures decls { OnOk result (self.new.decls ≡ self.old.decls ++ decls.now) }
-        ensures broken { OnOk result (self.new.broken ≡ lesser_place self.old.broken (least_place (repeated decls.now))) }
+        ensures broken { OnOk result (self.new.broken
+            ≡ lesser_place self.old.broken (least_place (repeated decls.now))) }
     {
         let repeated = least_repeated(alloc, decls)?;
         self.note(repeated);
@@ -100,7 +107,8 @@ impl Walk {
 
     // Puts back what names stood for, the last one first.
     fn close(&mut self, alloc: Global, mut hidden: Vec<Hidden>) -> Result<(), NoMemory>
-        ensures names { OnOk result (scope_in self.new ≡ restored (scope_in self.old) hidden.items) }
+        ensures names { OnOk result (scope_in self.new
+            ≡ restored (scope_in self.old) hidden.items) }
         ensures decls { self.new.decls ≡ self.old.decls }
         ensures broken { self.new.broken ≡ self.old.broken }
     {
@@ -126,8 +134,10 @@ impl Walk {
         alloc: Global,
         index: &Option<Expr<Name>>,
     ) -> Result<Option<Expr<u32>>, NoMemory>
-        ensures read { IfOk result (λ r. option_map tree r ≡ option_map (renamed (scope_in self.old)) (option_map tree index.now)) }
-        ensures notes { Notes self.old self.new (undeclared_in_index (scope_in self.old) (option_map tree index.now)) }
+        ensures read { IfOk result (λ r. option_map tree r
+            ≡ option_map (renamed (scope_in self.old)) (option_map tree index.now)) }
+        ensures notes { Notes self.old self.new
+            (undeclared_in_index (scope_in self.old) (option_map tree index.now)) }
     {
         match index {
             None => Ok(None),
@@ -160,7 +170,8 @@ impl Walk {
         delayed: bool,
         place: Place,
     ) -> Result<Stmt, NoMemory>
-        ensures { IfOk result (λ s. Walks self.old self.new (write delayed (goal_of target.now) (tree value.now) place) (kernel s)) }
+        ensures { IfOk result (λ s. Walks self.old self.new
+            (write delayed (goal_of target.now) (tree value.now) place) (kernel s)) }
     {
         let unknown = undeclared_at(&self.names, &target.name, target.place);
         self.note(unknown);
@@ -250,7 +261,8 @@ impl Walk {
 
     #[cycle(walk)]
     fn branch(&mut self, alloc: Global, stmts: &[Surface]) -> Result<Vec<Stmt>, NoMemory>
-        ensures { IfOk result (λ v. WalksBranch self.old self.new (branch (map written stmts.now)) (map kernel v.items)) }
+        ensures { IfOk result (λ v.
+            WalksBranch self.old self.new (branch (map written stmts.now)) (map kernel v.items)) }
     {
         let mut parts = Vec::new(alloc);
         for stmt in stmts {

@@ -1,4 +1,7 @@
 -- The reader: one pass, one token at a time. A state says what is to come, and what to do with it.
+--
+-- What it is for: the code is compared with it, a token at a time, and it alone with the grammar; `parse` and
+-- `parse_text` are proved through it, and `law_of_reading` says that it agrees with the grammar.
 use Rattle.std.specs.Prelude.{ℕ, Bool, true, false, ◌&&◌, ◌-◌, nat_lt, nat_le, ◌==◌, List, [], ◌∷◌, ◌++◌, Option, Some, None, option_and_then, if◌then◌else◌}
 use Rattle.quartz_tree.specs.declared.place.Place.{Place}
 use Rattle.quartz_tree.specs.declared.declare.Base.{Base}

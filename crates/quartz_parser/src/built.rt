@@ -65,7 +65,8 @@ pub fn write(delayed: bool, target: Target, value: Expr<Name>, place: Place) -> 
 
 #[tactic(auto, using(quartz_tree::proofs::SurfaceLemmas::written_block))]
 pub fn block(decls: Vec<Decl>, branches: Vec<Vec<Surface>>) -> Surface
-    ensures { written result ≡ plain.block decls.items (branches_of (map (λ b. branch (map written b.items)) branches.items)) }
+    ensures { written result ≡ plain.block decls.items
+        (branches_of (map (λ b. branch (map written b.items)) branches.items)) }
 {
     Surface::Block { decls, branches }
 }
@@ -150,7 +151,8 @@ pub fn guard(
     body: Surface,
     cond: Expr<Name>,
 ) -> Result<Surface, NoMemory>
-    ensures { IfOk result (λ s. written s ≡ plain.guard mode.abort mode.weak mode.immediate (written body) (tree cond)) }
+    ensures { IfOk result (λ s.
+        written s ≡ plain.guard mode.abort mode.weak mode.immediate (written body) (tree cond)) }
 {
     let body = Box::new(alloc, body)?;
     Ok(Surface::Guard {

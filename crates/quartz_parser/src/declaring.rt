@@ -1,3 +1,5 @@
+//! Declarations, made of a type, a name and a start value.
+
 ghost use Rattle.std.specs.Prelude.{◌≡◌};
 ghost use Rattle.quartz_parser.specs.Grammar.{declared_as, taken as taken_of};
 
@@ -13,7 +15,7 @@ pub struct Typing {
 }
 
 /// A declared name of this type.
-pub fn declared(typing: Typing, flow: Flow, name: Name, place: Place, init: Option<Init>) -> Decl
+pub fn declaration(typing: Typing, flow: Flow, name: Name, place: Place, init: Option<Init>) -> Decl
     ensures { result ≡ declared_as typing flow name place init }
 {
     Decl {
@@ -29,7 +31,7 @@ pub fn declared(typing: Typing, flow: Flow, name: Name, place: Place, init: Opti
 }
 
 /// What a parameter without a type takes from the one before it.
-pub fn taken(before: &Decl) -> Typing
+pub fn typing_of(before: &Decl) -> Typing
     ensures { result ≡ taken_of before.now }
 {
     Typing {

@@ -59,8 +59,9 @@ fn binary(word: &[u8]) -> u128
 }
 
 // A keyword or a sign.
-fn fixed(symbol: Symbol) -> Item<'static>
-    ensures { (text : List ℕ) (p : Place) → is_fixed symbol ≡ true → token result p ≡ token_with symbol text p }
+fn fixed_item(symbol: Symbol) -> Item<'static>
+    ensures { (text : List ℕ) (p : Place) → is_fixed symbol ≡ true →
+        token result p ≡ token_with symbol text p }
 {
     match symbol {
         Symbol::Mark(mark) => Item::Mark(mark),
@@ -87,7 +88,7 @@ pub fn read_item<'a>(found: &Token, text: &'a [u8]) -> Item<'a>
             width: (word.len() - 2) as u32,
             value: binary(word),
         },
-        TokenKind::Keyword => fixed(classify(TokenKind::Keyword, word)),
-        TokenKind::Sign => fixed(classify(TokenKind::Sign, word)),
+        TokenKind::Keyword => fixed_item(classify(TokenKind::Keyword, word)),
+        TokenKind::Sign => fixed_item(classify(TokenKind::Sign, word)),
     }
 }

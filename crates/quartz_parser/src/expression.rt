@@ -79,7 +79,8 @@ pub enum Outcome {
 
 // The piece comes next.
 fn take(room: Room, piece: Piece) -> Outcome
-    ensures { (k : Tree Word → State) (t : Token) → outcome result k t ≡ Some (operand room piece k) }
+    ensures { (k : Tree Word → State) (t : Token) →
+        outcome result k t ≡ Some (operand room piece k) }
 {
     Outcome::Taken(Next {
         marks: Marks::Zero,
@@ -97,8 +98,11 @@ fn nest(
     place: Place,
     pending: &mut Vec<Pending>,
 ) -> Result<Outcome, NoMemory>
-    ensures is { IfOk result (λ o. (t : Token) → Moves o pending.old.items pending.new.items t (λ next _. Some (behind marks (wanted row (room.levels - 1) (resumed begun room.row room.levels place next))))) }
-    ensures kept { IfOk result (λ o. is_over o ≡ true → length pending.new.items ≡ length pending.old.items) }
+    ensures is { IfOk result (λ o. (t : Token) →
+        Moves o pending.old.items pending.new.items t (λ next _. Some (behind marks
+        (wanted row (room.levels - 1) (resumed begun room.row room.levels place next))))) }
+    ensures kept { IfOk result (λ o. is_over o ≡ true →
+        length pending.new.items ≡ length pending.old.items) }
 {
     let inner = Room {
         row,
@@ -121,8 +125,11 @@ fn begin(
     place: Place,
     pending: &mut Vec<Pending>,
 ) -> Result<Outcome, NoMemory>
-    ensures is { IfOk result (λ o. (t : Token) → Moves o pending.old.items pending.new.items t (λ next _. only (nat_lt 1 room.levels) (behind marks (wanted row (room.levels - 1) (resumed begun room.row room.levels place next))))) }
-    ensures kept { IfOk result (λ o. is_over o ≡ true → length pending.new.items ≡ length pending.old.items) }
+    ensures is { IfOk result (λ o. (t : Token) → Moves o pending.old.items pending.new.items t
+        (λ next _. only (nat_lt 1 room.levels) (behind marks
+        (wanted row (room.levels - 1) (resumed begun room.row room.levels place next))))) }
+    ensures kept { IfOk result (λ o. is_over o ≡ true →
+        length pending.new.items ≡ length pending.old.items) }
 {
     if 1 < room.levels {
         nest(room, begun, row, marks, place, pending)
@@ -137,8 +144,10 @@ fn want_mark(
     place: Place,
     pending: &mut Vec<Pending>,
 ) -> Result<Outcome, NoMemory>
-    ensures is { IfOk result (λ o. Moves o pending.old.items pending.new.items (mark_token mark place) (want_on room.row room.levels)) }
-    ensures kept { IfOk result (λ o. is_over o ≡ true → length pending.new.items ≡ length pending.old.items) }
+    ensures is { IfOk result (λ o. Moves o pending.old.items pending.new.items
+        (mark_token mark place) (want_on room.row room.levels)) }
+    ensures kept { IfOk result (λ o. is_over o ≡ true →
+        length pending.new.items ≡ length pending.old.items) }
 {
     let zero = Marks::Zero;
     let open = Marks::One(Mark::Open);
@@ -159,8 +168,10 @@ fn want(
     place: Place,
     pending: &mut Vec<Pending>,
 ) -> Result<Outcome, NoMemory>
-    ensures is { IfOk result (λ o. Moves o pending.old.items pending.new.items (token item.entry place) (want_on room.row room.levels)) }
-    ensures kept { IfOk result (λ o. is_over o ≡ true → length pending.new.items ≡ length pending.old.items) }
+    ensures is { IfOk result (λ o. Moves o pending.old.items pending.new.items
+        (token item.entry place) (want_on room.row room.levels)) }
+    ensures kept { IfOk result (λ o. is_over o ≡ true →
+        length pending.new.items ≡ length pending.old.items) }
 {
     let expr = match item {
         Item::Truth(value) => Expr::Truth { value, place },
@@ -197,9 +208,11 @@ fn right_row(row: u32) -> u32
     if row == 2 { 2 } else { row + 1 }
 }
 
-// Whether an operator of the row, which takes a left operand from another row on, may follow the expression.
+// Whether an operator of the row, which takes a left operand from another row on, may follow the
+// expression.
 fn may_follow(room: Room, row: u32, operand_row: u32, left: &Rated) -> bool
-    ensures { result ≡ (nat_le room.row row && (nat_le operand_row (tightest_of (plain left.now.expr)) && nat_lt (level_of (plain left.now.expr)) room.levels)) }
+    ensures { result ≡ (nat_le room.row row && (nat_le operand_row (tightest_of
+        (plain left.now.expr)) && nat_lt (level_of (plain left.now.expr)) room.levels)) }
 {
     room.row <= row && operand_row <= left.tightest() && left.is_below(room.levels)
 }
@@ -211,8 +224,11 @@ fn operate(
     place: Place,
     pending: &mut Vec<Pending>,
 ) -> Result<Outcome, NoMemory>
-    ensures is { IfOk result (λ o. Moves o pending.old.items pending.new.items (infix_sign op place) (λ next t. tail_on room.row room.levels (plain left.expr) next t (step (next (plain left.expr)) t))) }
-    ensures kept { IfOk result (λ o. is_over o ≡ true → length pending.new.items ≡ length pending.old.items) }
+    ensures is { IfOk result (λ o.
+        Moves o pending.old.items pending.new.items (infix_sign op place) (λ next t.
+        tail_on room.row room.levels (plain left.expr) next t (step (next (plain left.expr)) t))) }
+    ensures kept { IfOk result (λ o. is_over o ≡ true →
+        length pending.new.items ≡ length pending.old.items) }
 {
     let row = row(op);
     if may_follow(room, row, left_row(row), &left) {
@@ -229,8 +245,11 @@ fn choose(
     place: Place,
     pending: &mut Vec<Pending>,
 ) -> Result<Outcome, NoMemory>
-    ensures is { IfOk result (λ o. Moves o pending.old.items pending.new.items (mark_token Mark.Question place) (λ next t. tail_on room.row room.levels (plain cond.expr) next t (step (next (plain cond.expr)) t))) }
-    ensures kept { IfOk result (λ o. is_over o ≡ true → length pending.new.items ≡ length pending.old.items) }
+    ensures is { IfOk result (λ o.
+        Moves o pending.old.items pending.new.items (mark_token Mark.Question place) (λ next t.
+        tail_on room.row room.levels (plain cond.expr) next t (step (next (plain cond.expr)) t))) }
+    ensures kept { IfOk result (λ o. is_over o ≡ true →
+        length pending.new.items ≡ length pending.old.items) }
 {
     if may_follow(room, 0, 1, &cond) {
         nest(room, Begun::Yes(cond), 0, Marks::Zero, place, pending)
@@ -240,7 +259,9 @@ fn choose(
 }
 
 fn cut(room: Room, part: Rated, place: Place) -> Outcome
-    ensures { (k : Tree Word → State) → outcome result k (mark_token Mark.OpenBrace place) ≡ tail_on room.row room.levels (plain part.expr) k (mark_token Mark.OpenBrace place) (step (k (plain part.expr)) (mark_token Mark.OpenBrace place)) }
+    ensures { (k : Tree Word → State) → outcome result k (mark_token Mark.OpenBrace place)
+        ≡ tail_on room.row room.levels (plain part.expr) k (mark_token Mark.OpenBrace place)
+        (step (k (plain part.expr)) (mark_token Mark.OpenBrace place)) }
 {
     if 12 <= part.tightest() && part.is_below(room.levels) {
         take(room, Piece::High(part, place))
@@ -257,8 +278,11 @@ fn tail(
     place: Place,
     pending: &mut Vec<Pending>,
 ) -> Result<Outcome, NoMemory>
-    ensures is { IfOk result (λ o. Moves o pending.old.items pending.new.items (token item.entry place) (λ next t. tail_on room.row room.levels (plain left.expr) next t (step (next (plain left.expr)) t))) }
-    ensures kept { IfOk result (λ o. is_over o ≡ true → length pending.new.items ≡ length pending.old.items) }
+    ensures is { IfOk result (λ o.
+        Moves o pending.old.items pending.new.items (token item.entry place) (λ next t.
+        tail_on room.row room.levels (plain left.expr) next t (step (next (plain left.expr)) t))) }
+    ensures kept { IfOk result (λ o. is_over o ≡ true →
+        length pending.new.items ≡ length pending.old.items) }
 {
     match item {
         Item::Infix(op) => operate(room, op, left, place, pending),
@@ -277,8 +301,11 @@ fn after_name(
     place: Place,
     pending: &mut Vec<Pending>,
 ) -> Result<Outcome, NoMemory>
-    ensures is { IfOk result (λ o. Moves o pending.old.items pending.new.items (token item.entry place) (λ next t. after_name_on room.row room.levels name at next t (step (next (named name at)) t))) }
-    ensures kept { IfOk result (λ o. is_over o ≡ true → length pending.new.items ≡ length pending.old.items) }
+    ensures is { IfOk result (λ o.
+        Moves o pending.old.items pending.new.items (token item.entry place) (λ next t.
+        after_name_on room.row room.levels name at next t (step (next (named name at)) t))) }
+    ensures kept { IfOk result (λ o. is_over o ≡ true →
+        length pending.new.items ≡ length pending.old.items) }
 {
     if is_mark(item, Mark::OpenBracket) {
         begin(room, Begun::Index(name), 0, Marks::Zero, at, pending)
@@ -304,7 +331,9 @@ fn after_high(
     at: Place,
     item: Item<'_>,
 ) -> Result<Outcome, NoMemory>
-    ensures { IfOk result (λ o. (k : Tree Word → State) (p : Place) → outcome o k (token item.entry p) ≡ after_high_on room.row room.levels (plain part.expr) high at k (token item.entry p)) }
+    ensures { IfOk result (λ o. (k : Tree Word → State) (p : Place) →
+        outcome o k (token item.entry p)
+        ≡ after_high_on room.row room.levels (plain part.expr) high at k (token item.entry p)) }
 {
     match item {
         Item::Mark(Mark::CloseBrace) => {
@@ -317,8 +346,9 @@ fn after_high(
 }
 
 // An expression behind one more mark.
-fn closing(room: Room, mark: Mark, expr: Rated) -> Outcome
-    ensures { (k : Tree Word → State) (t : Token) → outcome result k t ≡ Some (expect mark (behind_all room.row room.levels (plain expr.expr) k)) }
+fn close_with(room: Room, mark: Mark, expr: Rated) -> Outcome
+    ensures { (k : Tree Word → State) (t : Token) → outcome result k t
+        ≡ Some (expect mark (behind_all room.row room.levels (plain expr.expr) k)) }
 {
     Outcome::Taken(Next {
         marks: Marks::One(mark),
@@ -329,7 +359,8 @@ fn closing(room: Room, mark: Mark, expr: Rated) -> Outcome
 
 /// Whether the expression may be over here, and then the expression.
 pub fn whole(room: Room, piece: Piece) -> Option<Rated>
-    ensures { (k : Tree Word → State) → MatchOption result (ended (operand room piece k) ≡ None) (λ e. ended (operand room piece k) ≡ ended (k (plain e.expr))) }
+    ensures { (k : Tree Word → State) → MatchOption result (ended (operand room piece k)
+        ≡ None) (λ e. ended (operand room piece k) ≡ ended (k (plain e.expr))) }
 {
     match piece {
         Piece::AfterName(name, at) => Some(variable(name, at)),
@@ -347,8 +378,10 @@ pub fn offer(
     place: Place,
     pending: &mut Vec<Pending>,
 ) -> Result<Outcome, NoMemory>
-    ensures is { IfOk result (λ o. Moves o pending.old.items pending.new.items (token item.entry place) (λ next t. step (operand room piece next) t)) }
-    ensures kept { IfOk result (λ o. is_over o ≡ true → length pending.new.items ≡ length pending.old.items) }
+    ensures is { IfOk result (λ o. Moves o pending.old.items pending.new.items
+        (token item.entry place) (λ next t. step (operand room piece next) t)) }
+    ensures kept { IfOk result (λ o. is_over o ≡ true →
+        length pending.new.items ≡ length pending.old.items) }
 {
     match piece {
         Piece::Whole => want(alloc, room, item, place, pending),
@@ -362,14 +395,14 @@ pub fn offer(
         Piece::Low(part, high, at) => match item {
             Item::Number(low) => {
                 let slice = Rated::slice(alloc, part, high, Some(low), at)?;
-                Ok(closing(room, Mark::CloseBrace, slice))
+                Ok(close_with(room, Mark::CloseBrace, slice))
             }
             _ => Ok(Outcome::Stuck),
         },
         Piece::Width(part, at) => match item {
             Item::Number(width) => {
                 let word = Rated::to_bv(alloc, part, width, place, at)?;
-                Ok(closing(room, Mark::Close, word))
+                Ok(close_with(room, Mark::Close, word))
             }
             _ => Ok(Outcome::Stuck),
         },
@@ -384,7 +417,9 @@ fn alternative(
     place: Place,
     pending: &mut Vec<Pending>,
 ) -> Result<Next, NoMemory>
-    ensures is { IfOk result (λ x. (k : Tree Word → State) → next_state x (expr_next pending.new.items k) ≡ resumed (Begun.Yes cond) room.row room.levels place (expr_next pending.old.items k) (plain yes.expr)) }
+    ensures is { IfOk result (λ x. (k : Tree Word → State) →
+        next_state x (expr_next pending.new.items k) ≡ resumed (Begun.Yes cond)
+        room.row room.levels place (expr_next pending.old.items k) (plain yes.expr)) }
     ensures colon { IfOk result (λ x. x.marks ≡ Marks.One Mark.Colon) }
 {
     let begun = Begun::No(cond, yes);
@@ -406,7 +441,9 @@ pub fn resume(
     waiting: Pending,
     pending: &mut Vec<Pending>,
 ) -> Result<Next, NoMemory>
-    ensures is { IfOk result (λ x. (k : Tree Word → State) → next_state x (expr_next pending.new.items k) ≡ resumed waiting.begun waiting.room.row waiting.room.levels waiting.place (expr_next pending.old.items k) (plain expr.expr)) }
+    ensures is { IfOk result (λ x. (k : Tree Word → State) →
+        next_state x (expr_next pending.new.items k) ≡ resumed waiting.begun waiting.room.row
+        waiting.room.levels waiting.place (expr_next pending.old.items k) (plain expr.expr)) }
     ensures kept { IfOk result (λ x. WaitsAsBefore x.marks pending.old.items pending.new.items) }
 {
     let room = waiting.room;

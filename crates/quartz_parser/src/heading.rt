@@ -8,7 +8,7 @@ ghost use Rattle.quartz_parser.specs.Machine.{State, after_param as after_param_
 ghost use Rattle.quartz_parser.specs.Views.{token};
 ghost use Rattle.quartz_parser.specs.HeadingViews.{params_next, heading_state, course, Goes};
 
-use crate::declaring::{Typing, declared, taken};
+use crate::declaring::{Typing, declaration, typing_of};
 use crate::item::{Item, is_mark};
 use crate::marks::Marks;
 use crate::symbol::Mark;
@@ -59,17 +59,21 @@ fn add_param(
     place: Place,
     init: Option<Init>,
 ) -> Result<Typing, NoMemory>
-    ensures is { IfOk result (λ last. (k : ModuleTree → State) → after_param_state header.new.params.items last (params_next header.new.name k) ≡ param_more header.old.params.items (params_next header.old.name k) (declared_as typing flow name place init)) }
+    ensures is { IfOk result (λ last. (k : ModuleTree → State) →
+        after_param_state header.new.params.items last (params_next header.new.name k)
+        ≡ param_more header.old.params.items (params_next header.old.name k)
+        (declared_as typing flow name place init)) }
 {
-    let param = declared(typing, flow, name, place, init);
-    let last = taken(&param);
+    let param = declaration(typing, flow, name, place, init);
+    let last = typing_of(&param);
     header.params.push(param)?;
     Ok(last)
 }
 
 // The name of the module.
-fn named(alloc: Global, item: Item<'_>, header: &mut Header) -> Result<Course, NoMemory>
-    ensures { IfOk result (λ x. (p : Place) → Goes x header.old header.new (token item.entry p) Heading.Named) }
+fn read_name(alloc: Global, item: Item<'_>, header: &mut Header) -> Result<Course, NoMemory>
+    ensures { IfOk result (λ x. (p : Place) →
+        Goes x header.old header.new (token item.entry p) Heading.Named) }
 {
     match item {
         Item::Name(name) => {
@@ -81,8 +85,10 @@ fn named(alloc: Global, item: Item<'_>, header: &mut Header) -> Result<Course, N
 }
 
 // A parameter's type comes.
-fn typed(item: Item<'_>) -> Course
-    ensures { (x : Word) (ds : List Decl) (p : Place) (k : ModuleTree → State) → course result x ds k ≡ head_on (λ ty. flow_state ty (param_more ds (params_next x k))) (token item.entry p) None }
+fn begin_param(item: Item<'_>) -> Course
+    ensures { (x : Word) (ds : List Decl) (p : Place) (k : ModuleTree → State) →
+        course result x ds k ≡ head_on (λ ty.
+        flow_state ty (param_more ds (params_next x k))) (token item.entry p) None }
 {
     match head(item) {
         Some(next) => Course::Taken(next.marks, Heading::Type(next.part)),
@@ -98,13 +104,14 @@ fn first(alloc: Global, item: Item<'_>, header: &mut Header) -> Course
     if is_mark(item, Mark::Close) {
         Course::Body
     } else {
-        typed(item)
+        begin_param(item)
     }
 }
 
 // What follows a parameter of this type.
 fn after_param(last: Typing, item: Item<'_>) -> Course
-    ensures { (x : Word) (ds : List Decl) (p : Place) (k : ModuleTree → State) → course result x ds k ≡ after_param_on ds last (params_next x k) (token item.entry p) }
+    ensures { (x : Word) (ds : List Decl) (p : Place) (k : ModuleTree → State) →
+        course result x ds k ≡ after_param_on ds last (params_next x k) (token item.entry p) }
 {
     match item {
         Item::Mark(Mark::Comma) => Course::Taken(Marks::Zero, Heading::Next(last)),
@@ -115,20 +122,24 @@ fn after_param(last: Typing, item: Item<'_>) -> Course
 
 // A parameter behind another one: one that takes the type of that one, or one with a type.
 fn next_param(last: Typing, item: Item<'_>) -> Course
-    ensures { (x : Word) (ds : List Decl) (p : Place) (k : ModuleTree → State) → course result x ds k ≡ step (heading_state (Heading.Next last) x ds k) (token item.entry p) }
+    ensures { (x : Word) (ds : List Decl) (p : Place) (k : ModuleTree → State) →
+        course result x ds k ≡ step (heading_state (Heading.Next last) x ds k)
+        (token item.entry p) }
 {
     if is_mark(item, Mark::Question) {
         Course::Taken(Marks::Zero, Heading::Input(last))
     } else if is_mark(item, Mark::Bang) {
         Course::Taken(Marks::Zero, Heading::Output(last))
     } else {
-        typed(item)
+        begin_param(item)
     }
 }
 
 // A parameter's flow.
 fn flow_mark(typing: Typing, item: Item<'_>) -> Course
-    ensures { (x : Word) (ds : List Decl) (p : Place) (k : ModuleTree → State) → course result x ds k ≡ flow_on typing (param_more ds (params_next x k)) (token item.entry p) None }
+    ensures { (x : Word) (ds : List Decl) (p : Place) (k : ModuleTree → State) →
+        course result x ds k ≡ flow_on typing (param_more ds (params_next x k))
+        (token item.entry p) None }
 {
     match item {
         Item::Mark(Mark::Question) => Course::Taken(Marks::Zero, Heading::Input(typing)),
@@ -145,7 +156,8 @@ fn input(
     place: Place,
     header: &mut Header,
 ) -> Result<Course, NoMemory>
-    ensures { IfOk result (λ x. Goes x header.old header.new (token item.entry place) (Heading.Input typing)) }
+    ensures { IfOk result (λ x.
+        Goes x header.old header.new (token item.entry place) (Heading.Input typing)) }
 {
     match item {
         Item::Name(name) => {
@@ -159,7 +171,8 @@ fn input(
 
 // The name of an output.
 fn output(alloc: Global, typing: Typing, item: Item<'_>, place: Place) -> Result<Course, NoMemory>
-    ensures { IfOk result (λ c. (x : Word) (ds : List Decl) (k : ModuleTree → State) → course c x ds k ≡ step (heading_state (Heading.Output typing) x ds k) (token item.entry place)) }
+    ensures { IfOk result (λ c. (x : Word) (ds : List Decl) (k : ModuleTree → State) → course c
+        x ds k ≡ step (heading_state (Heading.Output typing) x ds k) (token item.entry place)) }
 {
     match item {
         Item::Name(name) => {
@@ -173,7 +186,8 @@ fn output(alloc: Global, typing: Typing, item: Item<'_>, place: Place) -> Result
 
 // A parameter's type goes on, or is over.
 fn go_on(part: TypePart, item: Item<'_>, place: Place) -> Course
-    ensures { (x : Word) (ds : List Decl) (k : ModuleTree → State) → course result x ds k ≡ step (heading_state (Heading.Type part) x ds k) (token item.entry place) }
+    ensures { (x : Word) (ds : List Decl) (k : ModuleTree → State) → course result x ds k
+        ≡ step (heading_state (Heading.Type part) x ds k) (token item.entry place) }
 {
     match offer_type(part, item, place) {
         TypeOutcome::Taken(next) => Course::Taken(next.marks, Heading::Type(next.part)),
@@ -192,7 +206,8 @@ fn start(
     place: Place,
     header: &mut Header,
 ) -> Result<Course, NoMemory>
-    ensures { IfOk result (λ x. Goes x header.old header.new (token item.entry place) (Heading.Init part typing name at)) }
+    ensures { IfOk result (λ x.
+        Goes x header.old header.new (token item.entry place) (Heading.Init part typing name at)) }
 {
     match offer_init(part, item, place) {
         InitOutcome::Taken(part) => {
@@ -218,7 +233,7 @@ pub fn offer_heading(
     ensures { IfOk result (λ x. Goes x header.old header.new (token item.entry place) heading) }
 {
     match heading {
-        Heading::Named => named(alloc, item, header),
+        Heading::Named => read_name(alloc, item, header),
         Heading::First => Ok(first(alloc, item, header)),
         Heading::AfterParam(last) => Ok(after_param(last, item)),
         Heading::Next(last) => Ok(next_param(last, item)),

@@ -1,3 +1,5 @@
+//! Tokens with their values.
+
 ghost use Rattle.std.specs.Prelude.{◌≡◌};
 ghost use Rattle.quartz_tree.specs.declared.place.Place.{Place};
 ghost use Rattle.quartz_parser.specs.Machine.{rank as rank_of};

@@ -8,8 +8,9 @@ ghost use Rattle.quartz_parser.specs.Parsing.{HasOneModule, HasOneText, ReadsMod
 #[derive(Clone, Copy, Debug, PartialEq, Eq)]
 pub struct Law;
 
-/// Tokens derive at most one module and at most one text, or break S2 at exactly one place; and the reader of
-/// `specs/Machine.antt` ends with the module or text that they derive, or stops at that place.
+/// Tokens derive at most one module and at most one text, or break S2 at exactly one place; and the
+/// reader of `specs/Machine.antt` ends with the module or text that they derive, or stops at that
+/// place.
 pub fn law_of_reading() -> Law
     ensures one_module { (tokens : List Lexeme) → HasOneModule tokens }
     ensures one_text { (tokens : List Lexeme) → HasOneText tokens }

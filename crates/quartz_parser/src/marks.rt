@@ -1,3 +1,5 @@
+//! The marks for which a reader waits.
+
 use crate::symbol::Mark;
 
 /// The marks that have to come first, in order.

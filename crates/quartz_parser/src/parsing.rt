@@ -12,7 +12,7 @@ ghost use Rattle.quartz_parser.specs.Reading.{Ends, StopsAt};
 use crate::decode::read_item;
 use crate::fault::ParseFault;
 use crate::marks::Marks;
-use crate::reader::{Control, End, Reader, Rest, finished, fresh, take};
+use crate::reader::{Control, End, Reader, Rest, end_reading, fresh, take};
 use quartz_lexer::Tokens;
 use quartz_tree::{Module, NoMemory};
 use std::alloc::Global;
@@ -27,7 +27,8 @@ pub struct Reached {
 fn read(alloc: Global, many: bool, tokens: &Tokens, text: &[u8]) -> Result<Reached, ParseFault>
     requires { AreTokensOf text.now tokens.now }
     ensures ended { IfOk result (λ r. Ends many (lexemes text.now tokens.now.items.items) r) }
-    ensures broken { (p : Place) → IsErrOf result (ParseFault.S2 p) → StopsAt many (lexemes text.now tokens.now.items.items) p }
+    ensures broken { (p : Place) → IsErrOf result (ParseFault.S2 p) →
+        StopsAt many (lexemes text.now tokens.now.items.items) p }
 {
     let mut reader = fresh(alloc)?;
     let mut control = Control {
@@ -41,13 +42,14 @@ fn read(alloc: Global, many: bool, tokens: &Tokens, text: &[u8]) -> Result<Reach
             None => return Err(ParseFault::S2(token.place)),
         }
     }
-    let end = finished(alloc, many, control, &mut reader)?;
+    let end = end_reading(alloc, many, control, &mut reader)?;
     Ok(Reached { end, reader })
 }
 
 fn alone(end: End) -> Option<Module>
     requires { IsLast end }
-    ensures { (r : Reader) → MatchOption result (left_by false end r ≡ None) (λ m. left_by false end r ≡ Some (module_tree m ∷ [])) }
+    ensures { (r : Reader) → MatchOption result (left_by false end r ≡ None) (λ m.
+        left_by false end r ≡ Some (module_tree m ∷ [])) }
 {
     match end {
         End::Module(module) => Some(module),
@@ -57,7 +59,8 @@ fn alone(end: End) -> Option<Module>
 
 fn all(alloc: Global, end: End, reader: Reader) -> Result<Option<Vec<Module>>, NoMemory>
     requires { IsLast end }
-    ensures { IfOk result (λ o. MatchOption o (left_by true end reader ≡ None) (λ ms. left_by true end reader ≡ Some (map module_tree ms.items))) }
+    ensures { IfOk result (λ o. MatchOption o (left_by true end reader ≡ None) (λ ms.
+        left_by true end reader ≡ Some (map module_tree ms.items))) }
 {
     match end {
         End::Module(module) => {
@@ -72,7 +75,8 @@ fn all(alloc: Global, end: End, reader: Reader) -> Result<Option<Vec<Module>>, N
 
 // The modules, where there is one.
 fn some(modules: Vec<Module>) -> Option<Vec<Module>>
-    ensures { MatchOption result (ended (several (map module_tree modules.items)) ≡ None) (λ ms. ended (several (map module_tree modules.items)) ≡ Some (map module_tree ms.items)) }
+    ensures { MatchOption result (ended (several (map module_tree modules.items)) ≡ None) (λ ms.
+        ended (several (map module_tree modules.items)) ≡ Some (map module_tree ms.items)) }
 {
     if modules.is_empty() {
         None
@@ -87,8 +91,10 @@ fn some(modules: Vec<Module>) -> Option<Vec<Module>>
 #[tactic(auto, using(crate::proofs::Agreement::one_module))]
 pub fn parse(alloc: Global, tokens: &Tokens, text: &[u8]) -> Result<Module, ParseFault>
     requires { AreTokensOf text.now tokens.now }
-    ensures derived { IfOk result (λ m. DerivesModule (lexemes text.now tokens.now.items.items) (module_tree m)) }
-    ensures broken { (p : Place) → IsErrOf result (ParseFault.S2 p) → Breaks HasModule (lexemes text.now tokens.now.items.items) tokens.now.end p }
+    ensures derived { IfOk result (λ m.
+        DerivesModule (lexemes text.now tokens.now.items.items) (module_tree m)) }
+    ensures broken { (p : Place) → IsErrOf result (ParseFault.S2 p) →
+        Breaks HasModule (lexemes text.now tokens.now.items.items) tokens.now.end p }
     ensures law { HasOneModule (lexemes text.now tokens.now.items.items) }
 {
     let reached = match read(alloc, false, tokens, text) {
@@ -107,8 +113,10 @@ pub fn parse(alloc: Global, tokens: &Tokens, text: &[u8]) -> Result<Module, Pars
 #[tactic(auto, using(crate::proofs::Agreement::one_text))]
 pub fn parse_text(alloc: Global, tokens: &Tokens, text: &[u8]) -> Result<Vec<Module>, ParseFault>
     requires { AreTokensOf text.now tokens.now }
-    ensures derived { IfOk result (λ ms. DerivesText (lexemes text.now tokens.now.items.items) (map module_tree ms.items)) }
-    ensures broken { (p : Place) → IsErrOf result (ParseFault.S2 p) → Breaks HasText (lexemes text.now tokens.now.items.items) tokens.now.end p }
+    ensures derived { IfOk result (λ ms.
+        DerivesText (lexemes text.now tokens.now.items.items) (map module_tree ms.items)) }
+    ensures broken { (p : Place) → IsErrOf result (ParseFault.S2 p) →
+        Breaks HasText (lexemes text.now tokens.now.items.items) tokens.now.end p }
     ensures law { HasOneText (lexemes text.now tokens.now.items.items) }
 {
     let reached = match read(alloc, true, tokens, text) {

@@ -1,3 +1,5 @@
+//! Expressions with their levels, made of their parts.
+
 ghost use Rattle.std.specs.Prelude.{◌≡◌, ◌≤◌, ◌-◌, ◌^◌, min, nat_lt, Some, None, IfOk};
 ghost use Rattle.quartz_tree.specs.Tree as tree;
 ghost use Rattle.quartz_tree.specs.Tree.{tree as plain};
@@ -42,7 +44,8 @@ impl Rated {
         right: Rated,
         place: Place,
     ) -> Result<Rated, NoMemory>
-        ensures { IfOk result (λ r. plain r.expr ≡ tree.two op (plain left.expr) (plain right.expr) place) }
+        ensures { IfOk result (λ r. plain r.expr
+            ≡ tree.two op (plain left.expr) (plain right.expr) place) }
     {
         let level = left.level.max(right.level).saturating_add(1);
         let left = Box::new(alloc, left.expr)?;
@@ -65,7 +68,8 @@ impl Rated {
         no: Rated,
         place: Place,
     ) -> Result<Rated, NoMemory>
-        ensures { IfOk result (λ r. plain r.expr ≡ tree.choice (plain cond.expr) (plain yes.expr) (plain no.expr) place) }
+        ensures { IfOk result (λ r. plain r.expr
+            ≡ tree.choice (plain cond.expr) (plain yes.expr) (plain no.expr) place) }
     {
         let level = cond.level.max(yes.level.max(no.level)).saturating_add(1);
         let cond = Box::new(alloc, cond.expr)?;
@@ -133,7 +137,8 @@ impl Rated {
         width_place: Place,
         place: Place,
     ) -> Result<Rated, NoMemory>
-        ensures { IfOk result (λ r. plain r.expr ≡ tree.to_bv (plain part.expr) width width_place place) }
+        ensures { IfOk result (λ r. plain r.expr
+            ≡ tree.to_bv (plain part.expr) width width_place place) }
     {
         let level = part.level.saturating_add(1);
         let part = Box::new(alloc, part.expr)?;

@@ -38,8 +38,8 @@ pub struct Control {
     pub rest: Rest,
 }
 
-/// What was read of a text: the modules that are over, the head of the one that is read, and what waits for a
-/// statement of it.
+/// What was read of a text: the modules that are over, the head of the one that is read, and what
+/// waits for a statement of it.
 #[derive(Drop)]
 pub struct Reader {
     pub modules: Vec<Module>,
@@ -92,7 +92,8 @@ fn finish(
     body: Surface,
     reader: &mut Reader,
 ) -> Result<Control, NoMemory>
-    ensures is { IfOk result (λ c. control_state many c reader.new ≡ body_next many reader.old (written body)) }
+    ensures is { IfOk result (λ c. control_state many c reader.new
+        ≡ body_next many reader.old (written body)) }
     ensures firm { IfOk result (λ c. control_weight c reader.new ≡ 0) }
 {
     let header = replace(&mut reader.header, no_header(alloc)?);
@@ -114,8 +115,10 @@ fn finish(
 
 // A statement is over, and what waits for it goes on.
 fn over(alloc: Global, many: bool, inner: Surface, reader: &mut Reader) -> Result<Control, NoMemory>
-    ensures is { IfOk result (λ c. control_state many c reader.new ≡ open_next reader.old.waiting.items (body_next many reader.old) (written inner)) }
-    ensures falls { IfOk result (λ c. control_weight c reader.new ≤ 2 * length reader.old.waiting.items) }
+    ensures is { IfOk result (λ c. control_state many c reader.new
+        ≡ open_next reader.old.waiting.items (body_next many reader.old) (written inner)) }
+    ensures falls { IfOk result (λ c. control_weight c reader.new
+        ≤ 2 * length reader.old.waiting.items) }
 {
     match reader.waiting.pop() {
         None => finish(alloc, many, inner, reader),
@@ -138,7 +141,8 @@ fn offer_head(
     place: Place,
     reader: &mut Reader,
 ) -> Result<Act, NoMemory>
-    ensures is { IfOk result (λ x. stepped many x reader.new (token item.entry place) ≡ step (rest_state many (Rest.Head heading) reader.old) (token item.entry place)) }
+    ensures is { IfOk result (λ x. stepped many x reader.new (token item.entry place)
+        ≡ step (rest_state many (Rest.Head heading) reader.old) (token item.entry place)) }
     ensures falls { IfOk result (λ x. Drops x reader.new 0) }
 {
     let course = offer_heading(alloc, heading, item, place, &mut reader.header)?;
@@ -168,8 +172,10 @@ fn offer_body(
     place: Place,
     reader: &mut Reader,
 ) -> Result<Act, NoMemory>
-    ensures is { IfOk result (λ x. stepped many x reader.new (token item.entry place) ≡ step (rest_state many (Rest.Body part) reader.old) (token item.entry place)) }
-    ensures falls { IfOk result (λ x. Drops x reader.new (weight Marks.Zero part (length reader.old.waiting.items))) }
+    ensures is { IfOk result (λ x. stepped many x reader.new (token item.entry place)
+        ≡ step (rest_state many (Rest.Body part) reader.old) (token item.entry place)) }
+    ensures falls { IfOk result (λ x.
+        Drops x reader.new (weight Marks.Zero part (length reader.old.waiting.items))) }
 {
     match offer(alloc, part, item, place, &mut reader.waiting)? {
         Move::Taken(turn) => Ok(Act::Taken(Control {
@@ -190,7 +196,8 @@ fn offer_body(
 
 // A token where no module is being read.
 fn offer_between(item: Item<'_>) -> Act
-    ensures is { (many : Bool) (r : Reader) (p : Place) → stepped many result r (token item.entry p) ≡ step (rest_state many Rest.Between r) (token item.entry p) }
+    ensures is { (many : Bool) (r : Reader) (p : Place) → stepped many result r (token item.entry p)
+        ≡ step (rest_state many Rest.Between r) (token item.entry p) }
     ensures falls { (r : Reader) → Drops result r 0 }
 {
     if is_mark(item, Mark::Module) {
@@ -205,7 +212,8 @@ fn offer_between(item: Item<'_>) -> Act
 
 // A token where a mark has to come.
 fn offer_mark(mark: Mark, next: Control, item: Item<'_>) -> Act
-    ensures is { (many : Bool) (r : Reader) (p : Place) → stepped many result r (token item.entry p) ≡ step (expect mark (control_state many next r)) (token item.entry p) }
+    ensures is { (many : Bool) (r : Reader) (p : Place) → stepped many result r (token item.entry p)
+        ≡ step (expect mark (control_state many next r)) (token item.entry p) }
     ensures falls { (r : Reader) → Drops result r 0 }
 {
     if is_mark(item, mark) {
@@ -224,7 +232,8 @@ fn offer_control(
     place: Place,
     reader: &mut Reader,
 ) -> Result<Act, NoMemory>
-    ensures is { IfOk result (λ x. stepped many x reader.new (token item.entry place) ≡ step (control_state many control reader.old) (token item.entry place)) }
+    ensures is { IfOk result (λ x. stepped many x reader.new (token item.entry place)
+        ≡ step (control_state many control reader.old) (token item.entry place)) }
     ensures falls { IfOk result (λ x. Drops x reader.new (control_weight control reader.old)) }
 {
     let rest = control.rest;
@@ -249,8 +258,10 @@ fn offer_rest(
     place: Place,
     reader: &mut Reader,
 ) -> Result<Act, NoMemory>
-    ensures is { IfOk result (λ x. stepped many x reader.new (token item.entry place) ≡ step (rest_state many rest reader.old) (token item.entry place)) }
-    ensures falls { IfOk result (λ x. Drops x reader.new (control_weight (record { marks = Marks.Zero; rest = rest }) reader.old)) }
+    ensures is { IfOk result (λ x. stepped many x reader.new (token item.entry place)
+        ≡ step (rest_state many rest reader.old) (token item.entry place)) }
+    ensures falls { IfOk result (λ x. Drops x reader.new
+        (control_weight (record { marks = Marks.Zero; rest = rest }) reader.old)) }
 {
     match rest {
         Rest::Between => Ok(offer_between(item)),
@@ -269,7 +280,8 @@ pub fn take(
     place: Place,
     reader: &mut Reader,
 ) -> Result<Option<Control>, NoMemory>
-    ensures { IfOk result (λ c. option_map (λ x. control_state many x reader.new) c ≡ step (control_state many control reader.old) (token item.entry place)) }
+    ensures { IfOk result (λ c. option_map (λ x. control_state many x reader.new) c
+        ≡ step (control_state many control reader.old) (token item.entry place)) }
 {
     let mut control = control;
     loop {
@@ -283,8 +295,10 @@ pub fn take(
 
 // What is left of the body of a module where the tokens end.
 fn leave_body(alloc: Global, many: bool, part: Part, reader: &mut Reader) -> Result<End, NoMemory>
-    ensures is { IfOk result (λ e. left_by many e reader.new ≡ ended (rest_state many (Rest.Body part) reader.old)) }
-    ensures falls { IfOk result (λ e. LeavesLess e reader.new (weight Marks.Zero part (length reader.old.waiting.items))) }
+    ensures is { IfOk result (λ e. left_by many e reader.new
+        ≡ ended (rest_state many (Rest.Body part) reader.old)) }
+    ensures falls { IfOk result (λ e.
+        LeavesLess e reader.new (weight Marks.Zero part (length reader.old.waiting.items))) }
 {
     match leave(alloc, part, &mut reader.waiting)? {
         Leaving::Past(turn) => Ok(End::Past(Control {
@@ -305,7 +319,8 @@ fn leave_control(
     control: Control,
     reader: &mut Reader,
 ) -> Result<End, NoMemory>
-    ensures is { IfOk result (λ e. left_by many e reader.new ≡ ended (control_state many control reader.old)) }
+    ensures is { IfOk result (λ e. left_by many e reader.new
+        ≡ ended (control_state many control reader.old)) }
     ensures falls { IfOk result (λ e. LeavesLess e reader.new (control_weight control reader.old)) }
 {
     match control.marks {
@@ -320,13 +335,14 @@ fn leave_control(
 }
 
 /// What is read where the tokens end.
-pub fn finished(
+pub fn end_reading(
     alloc: Global,
     many: bool,
     control: Control,
     reader: &mut Reader,
 ) -> Result<End, NoMemory>
-    ensures is { IfOk result (λ e. left_by many e reader.new ≡ ended (control_state many control reader.old)) }
+    ensures is { IfOk result (λ e. left_by many e reader.new
+        ≡ ended (control_state many control reader.old)) }
     ensures last { IfOk result (λ e. IsLast e) }
 {
     let mut control = control;

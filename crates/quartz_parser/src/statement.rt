@@ -12,7 +12,7 @@ ghost use Rattle.quartz_parser.specs.StatementViews.{opened, open_next, aim_next
 
 use crate::built;
 use crate::built::Mode;
-use crate::declaring::{Typing, declared};
+use crate::declaring::{Typing, declaration};
 use crate::expression::{Outcome, Pending, Piece, Room, offer as offer_expression, resume, whole};
 use crate::item::{Item, is_mark};
 use crate::marks::Marks;
@@ -147,20 +147,22 @@ pub enum Leaving {
 
 // The part comes next.
 fn take(marks: Marks, part: Part) -> Option<Turn>
-    ensures { (k : Written → State) → taken result k ≡ Some (turn_state (record { marks = marks; part = part }) k) }
+    ensures { (k : Written → State) →
+        taken result k ≡ Some (turn_state (record { marks = marks; part = part }) k) }
 {
     Some(Turn { marks, part })
 }
 
 // An expression for this comes.
 fn ask(alloc: Global, marks: Marks, wish: Wish) -> Option<Turn>
-    ensures { (k : Written → State) → taken result k ≡ Some (behind marks (wanted 0 64 (wish_next wish k))) }
+    ensures { (k : Written → State) →
+        taken result k ≡ Some (behind marks (wanted 0 64 (wish_next wish k))) }
 {
-    take(marks, asked(alloc, wish))
+    take(marks, expression_for(alloc, wish))
 }
 
 // An expression for this.
-fn asked(alloc: Global, wish: Wish) -> Part
+fn expression_for(alloc: Global, wish: Wish) -> Part
     ensures { (k : Written → State) → part_state result k ≡ wanted 0 64 (wish_next wish k) }
 {
     let room = Room {
@@ -179,22 +181,25 @@ fn asked(alloc: Global, wish: Wish) -> Part
 
 // A statement inside another one comes.
 fn nest(levels: u32, waiting: Open, frames: &mut Vec<Open>) -> Result<Option<Turn>, NoMemory>
-    ensures { IfOk result (λ x. Leads x frames.old.items frames.new.items (λ next. Some (stmt (levels - 1) (opened waiting next)))) }
+    ensures { IfOk result (λ x. Leads x frames.old.items frames.new.items (λ next.
+        Some (stmt (levels - 1) (opened waiting next)))) }
 {
     frames.push(waiting)?;
     Ok(take(Marks::Zero, Part::Begin(levels.saturating_sub(1))))
 }
 
 // The body of an `abort` or `suspend` comes.
-fn guarded(levels: u32, mode: Mode, frames: &mut Vec<Open>) -> Result<Option<Turn>, NoMemory>
-    ensures { IfOk result (λ x. Leads x frames.old.items frames.new.items (λ next. Some (guarded_state levels mode.abort mode.weak mode.immediate next))) }
+fn nest_guard(levels: u32, mode: Mode, frames: &mut Vec<Open>) -> Result<Option<Turn>, NoMemory>
+    ensures { IfOk result (λ x. Leads x frames.old.items frames.new.items (λ next.
+        Some (guarded_state levels mode.abort mode.weak mode.immediate next))) }
 {
     nest(levels, Open::Guard(mode), frames)
 }
 
 // The same, where there is a level left.
 fn nest_inside(levels: u32, waiting: Open, frames: &mut Vec<Open>) -> Result<Option<Turn>, NoMemory>
-    ensures { IfOk result (λ x. Leads x frames.old.items frames.new.items (λ next. only (nat_lt 1 levels) (stmt (levels - 1) (opened waiting next)))) }
+    ensures { IfOk result (λ x. Leads x frames.old.items frames.new.items (λ next.
+        only (nat_lt 1 levels) (stmt (levels - 1) (opened waiting next)))) }
 {
     if 1 < levels {
         nest(levels, waiting, frames)
@@ -205,7 +210,8 @@ fn nest_inside(levels: u32, waiting: Open, frames: &mut Vec<Open>) -> Result<Opt
 
 // The move, where there is a level left.
 fn inside(levels: u32, next: Option<Turn>) -> Option<Turn>
-    ensures { (k : Written → State) → taken result k ≡ (if nat_lt 1 levels then taken next k else None) }
+    ensures { (k : Written → State) →
+        taken result k ≡ (if nat_lt 1 levels then taken next k else None) }
 {
     if 1 < levels { next } else { None }
 }
@@ -218,7 +224,8 @@ fn begin_mark(
     place: Place,
     frames: &mut Vec<Open>,
 ) -> Result<Option<Turn>, NoMemory>
-    ensures { IfOk result (λ x. Takes x frames.old.items frames.new.items (mark_token mark place) (stmt_on levels)) }
+    ensures { IfOk result (λ x.
+        Takes x frames.old.items frames.new.items (mark_token mark place) (stmt_on levels)) }
 {
     let zero = Marks::Zero;
     let semicolon = Marks::One(Mark::Semicolon);
@@ -254,7 +261,8 @@ fn block_begins(alloc: Global, levels: u32) -> Option<Turn>
 
 // A guarded statement, where there is a level left.
 fn guarded_inside(levels: u32, mode: Mode, frames: &mut Vec<Open>) -> Result<Option<Turn>, NoMemory>
-    ensures { IfOk result (λ x. Leads x frames.old.items frames.new.items (λ next. only (nat_lt 1 levels) (guarded_state levels mode.abort mode.weak mode.immediate next))) }
+    ensures { IfOk result (λ x. Leads x frames.old.items frames.new.items (λ next.
+        only (nat_lt 1 levels) (guarded_state levels mode.abort mode.weak mode.immediate next))) }
 {
     nest_inside(levels, Open::Guard(mode), frames)
 }
@@ -267,7 +275,8 @@ fn begin(
     place: Place,
     frames: &mut Vec<Open>,
 ) -> Result<Option<Turn>, NoMemory>
-    ensures { IfOk result (λ x. Takes x frames.old.items frames.new.items (token item.entry place) (stmt_on levels)) }
+    ensures { IfOk result (λ x.
+        Takes x frames.old.items frames.new.items (token item.entry place) (stmt_on levels)) }
 {
     match item {
         Item::Mark(mark) => begin_mark(alloc, levels, mark, place, frames),
@@ -291,7 +300,8 @@ fn begin(
 
 // What follows a name with which a statement begins.
 fn after_word(alloc: Global, name: Name, at: Place, item: Item<'_>) -> Option<Turn>
-    ensures { (k : Written → State) (p : Place) → taken result k ≡ after_word_on name at k (token item.entry p) }
+    ensures { (k : Written → State) (p : Place) →
+        taken result k ≡ after_word_on name at k (token item.entry p) }
 {
     let zero = Marks::Zero;
     match item {
@@ -309,7 +319,7 @@ fn after_word(alloc: Global, name: Name, at: Place, item: Item<'_>) -> Option<Tu
 }
 
 // What follows a label.
-fn labelled(alloc: Global, item: Item<'_>, place: Place) -> Option<Turn>
+fn after_label(alloc: Global, item: Item<'_>, place: Place) -> Option<Turn>
     ensures { (k : Written → State) → taken result k ≡ labelled_on k (token item.entry place) }
 {
     let semicolon = Marks::One(Mark::Semicolon);
@@ -333,7 +343,8 @@ fn after_immediate(
     item: Item<'_>,
     frames: &mut Vec<Open>,
 ) -> Result<Option<Turn>, NoMemory>
-    ensures { IfOk result (λ x. (p : Place) → Takes x frames.old.items frames.new.items (token item.entry p) (after_immediate_on levels at)) }
+    ensures { IfOk result (λ x. (p : Place) → Takes x frames.old.items frames.new.items
+        (token item.entry p) (after_immediate_on levels at)) }
 {
     let weak = false;
     let immediate = true;
@@ -357,7 +368,8 @@ fn after_immediate(
 
 // What follows a `weak`.
 fn after_weak(levels: u32, item: Item<'_>, frames: &mut Vec<Open>) -> Result<Option<Turn>, NoMemory>
-    ensures { IfOk result (λ x. (p : Place) → Takes x frames.old.items frames.new.items (token item.entry p) (after_weak_on levels)) }
+    ensures { IfOk result (λ x. (p : Place) →
+        Takes x frames.old.items frames.new.items (token item.entry p) (after_weak_on levels)) }
 {
     let weak = true;
     let immediate = false;
@@ -371,7 +383,7 @@ fn after_weak(levels: u32, item: Item<'_>, frames: &mut Vec<Open>) -> Result<Opt
                 weak,
                 immediate,
             };
-            guarded(levels, mode, frames)
+            nest_guard(levels, mode, frames)
         }
         _ => Ok(None),
     }
@@ -385,7 +397,8 @@ fn after_mode(
     item: Item<'_>,
     frames: &mut Vec<Open>,
 ) -> Result<Option<Turn>, NoMemory>
-    ensures { IfOk result (λ x. (p : Place) → Takes x frames.old.items frames.new.items (token item.entry p) (after_mode_on levels weak immediate)) }
+    ensures { IfOk result (λ x. (p : Place) → Takes x frames.old.items frames.new.items
+        (token item.entry p) (after_mode_on levels weak immediate)) }
 {
     match item {
         Item::Preempt(abort) => {
@@ -394,7 +407,7 @@ fn after_mode(
                 weak,
                 immediate,
             };
-            guarded(levels, mode, frames)
+            nest_guard(levels, mode, frames)
         }
         _ => Ok(None),
     }
@@ -407,7 +420,8 @@ fn after_emit(
     item: Item<'_>,
     place: Place,
 ) -> Result<Option<Turn>, NoMemory>
-    ensures { IfOk result (λ x. (k : Written → State) → taken x k ≡ after_emit_on at k (token item.entry place)) }
+    ensures { IfOk result (λ x. (k : Written → State) →
+        taken x k ≡ after_emit_on at k (token item.entry place)) }
 {
     match item {
         Item::Name(name) => {
@@ -434,7 +448,8 @@ fn add_arg(
     name: &str,
     place: Place,
 ) -> Result<Option<Turn>, NoMemory>
-    ensures { IfOk result (λ x. (k : Written → State) → taken x k ≡ Some (after_arg_state callee at (args.items ++ record { name = name.now; place = place } ∷ []) k)) }
+    ensures { IfOk result (λ x. (k : Written → State) → taken x k ≡ Some (after_arg_state callee at
+        (args.items ++ record { name = name.now; place = place } ∷ []) k)) }
 {
     let name = Name::new(alloc, name)?;
     args.push(Arg { name, place })?;
@@ -449,7 +464,8 @@ fn first_arg(
     item: Item<'_>,
     place: Place,
 ) -> Result<Option<Turn>, NoMemory>
-    ensures { IfOk result (λ x. (k : Written → State) → taken x k ≡ first_arg_on callee at k (token item.entry place)) }
+    ensures { IfOk result (λ x. (k : Written → State) →
+        taken x k ≡ first_arg_on callee at k (token item.entry place)) }
 {
     let args = Vec::new(alloc);
     match item {
@@ -464,7 +480,8 @@ fn first_arg(
 
 // What follows an argument.
 fn after_arg(callee: Name, at: Place, args: Vec<Arg>, item: Item<'_>) -> Option<Turn>
-    ensures { (k : Written → State) (p : Place) → taken result k ≡ after_arg_on callee at args.items k (token item.entry p) }
+    ensures { (k : Written → State) (p : Place) →
+        taken result k ≡ after_arg_on callee at args.items k (token item.entry p) }
 {
     match item {
         Item::Mark(Mark::Close) => {
@@ -485,7 +502,8 @@ fn next_arg(
     item: Item<'_>,
     place: Place,
 ) -> Result<Option<Turn>, NoMemory>
-    ensures { IfOk result (λ x. (k : Written → State) → taken x k ≡ step (part_state (Part.NextArg callee at args) k) (token item.entry place)) }
+    ensures { IfOk result (λ x. (k : Written → State) →
+        taken x k ≡ step (part_state (Part.NextArg callee at args) k) (token item.entry place)) }
 {
     match item {
         Item::Name(name) => add_arg(alloc, callee, at, args, name, place),
@@ -495,7 +513,9 @@ fn next_arg(
 
 // The statements behind the `||` come.
 fn next_branch(alloc: Global, block: Block) -> Result<Block, NoMemory>
-    ensures { IfOk result (λ b. (k : Written → State) → part_state (Part.Ready b) k ≡ ready_state block.levels block.decls.items (branches block ++ branch (map written block.statements.items) ∷ []) [] k) }
+    ensures { IfOk result (λ b. (k : Written → State) →
+        part_state (Part.Ready b) k ≡ ready_state block.levels block.decls.items
+        (branches block ++ branch (map written block.statements.items) ∷ []) [] k) }
 {
     let mut branches = block.branches;
     branches.push(block.statements)?;
@@ -508,8 +528,9 @@ fn next_branch(alloc: Global, block: Block) -> Result<Block, NoMemory>
 }
 
 // The block is over.
-fn closed(block: Block) -> Result<Surface, NoMemory>
-    ensures { IfOk result (λ s. written s ≡ block_of block.decls.items (branches_of (branches block ++ branch (map written block.statements.items) ∷ []))) }
+fn close_block(block: Block) -> Result<Surface, NoMemory>
+    ensures { IfOk result (λ s. written s ≡ block_of block.decls.items
+        (branches_of (branches block ++ branch (map written block.statements.items) ∷ []))) }
 {
     let mut branches = block.branches;
     branches.push(block.statements)?;
@@ -524,7 +545,8 @@ fn go_on(
     place: Place,
     frames: &mut Vec<Open>,
 ) -> Result<Option<Turn>, NoMemory>
-    ensures { IfOk result (λ x. Takes x frames.old.items frames.new.items (token item.entry place) (λ next. stmt_on block.levels (opened (Open.Block block) next))) }
+    ensures { IfOk result (λ x. Takes x frames.old.items frames.new.items
+        (token item.entry place) (λ next. stmt_on block.levels (opened (Open.Block block) next))) }
 {
     let levels = block.levels;
     frames.push(Open::Block(block))?;
@@ -539,13 +561,15 @@ fn ready(
     place: Place,
     frames: &mut Vec<Open>,
 ) -> Result<Option<Turn>, NoMemory>
-    ensures { IfOk result (λ x. Takes x frames.old.items frames.new.items (token item.entry place) (ready_on block.levels block.decls.items (branches block) (map written block.statements.items))) }
+    ensures { IfOk result (λ x. Takes x frames.old.items frames.new.items
+        (token item.entry place) (ready_on block.levels block.decls.items
+        (branches block) (map written block.statements.items))) }
 {
     if is_mark(item, Mark::Bars) {
         let block = next_branch(alloc, block)?;
         Ok(take(Marks::Zero, Part::Ready(block)))
     } else if is_mark(item, Mark::CloseBrace) {
-        let block = closed(block)?;
+        let block = close_block(block)?;
         Ok(take(Marks::Zero, Part::Done(block)))
     } else if 0 < block.levels {
         go_on(alloc, block, item, place, frames)
@@ -562,7 +586,8 @@ fn declare_or_go_on(
     place: Place,
     frames: &mut Vec<Open>,
 ) -> Result<Option<Turn>, NoMemory>
-    ensures { IfOk result (λ x. Takes x frames.old.items frames.new.items (token item.entry place) (λ next t. step (part_state (Part.Locals locals) next) t)) }
+    ensures { IfOk result (λ x. Takes x frames.old.items frames.new.items
+        (token item.entry place) (λ next t. step (part_state (Part.Locals locals) next) t)) }
 {
     match head(item) {
         Some(next) => Ok(take(next.marks, Part::LocalType(next.part, locals))),
@@ -580,7 +605,8 @@ fn declare_or_go_on(
 
 // A local's type goes on, or is over.
 fn local_type(part: TypePart, locals: Locals, item: Item<'_>, place: Place) -> Move
-    ensures is { (k : Written → State) → moved result k (token item.entry place) ≡ step (part_state (Part.LocalType part locals) k) (token item.entry place) }
+    ensures is { (k : Written → State) → moved result k (token item.entry place)
+        ≡ step (part_state (Part.LocalType part locals) k) (token item.entry place) }
     ensures falls { (n : ℕ) → Falls result n (1 + 2 * n) }
 {
     match offer_type(part, item, place) {
@@ -620,7 +646,8 @@ fn local_name(
     item: Item<'_>,
     place: Place,
 ) -> Result<Option<Turn>, NoMemory>
-    ensures { IfOk result (λ x. (k : Written → State) → taken x k ≡ step (part_state (Part.LocalName typing locals) k) (token item.entry place)) }
+    ensures { IfOk result (λ x. (k : Written → State) →
+        taken x k ≡ step (part_state (Part.LocalName typing locals) k) (token item.entry place)) }
 {
     match item {
         Item::Name(name) => {
@@ -640,12 +667,13 @@ fn declare(
     init: Option<Init>,
     locals: Locals,
 ) -> Result<Part, NoMemory>
-    ensures is { IfOk result (λ x. (k : Written → State) → part_state x k ≡ open_decls locals.levels (locals.decls.items ++ declared_as typing Inner name place init ∷ []) typing k) }
+    ensures is { IfOk result (λ x. (k : Written → State) → part_state x k ≡ open_decls locals.levels
+        (locals.decls.items ++ declared_as typing Inner name place init ∷ []) typing k) }
     ensures firm { IfOk result (λ x. (n : ℕ) → weight Marks.Zero x n ≡ 0) }
 {
     let levels = locals.levels;
     let mut decls = locals.decls;
-    decls.push(declared(typing, Flow::Inner, name, place, init))?;
+    decls.push(declaration(typing, Flow::Inner, name, place, init))?;
     Ok(Part::Declared(typing, Locals { levels, decls }))
 }
 
@@ -659,7 +687,8 @@ fn local_init(
     item: Item<'_>,
     place: Place,
 ) -> Result<Move, NoMemory>
-    ensures is { IfOk result (λ x. (k : Written → State) → moved x k (token item.entry place) ≡ step (part_state (Part.LocalInit part typing name at locals) k) (token item.entry place)) }
+    ensures is { IfOk result (λ x. (k : Written → State) → moved x k (token item.entry place) ≡ step
+        (part_state (Part.LocalInit part typing name at locals) k) (token item.entry place)) }
     ensures falls { IfOk result (λ x. (n : ℕ) → Falls x n (1 + 2 * n)) }
 {
     match offer_init(part, item, place) {
@@ -678,7 +707,8 @@ fn local_init(
 
 // What follows a local.
 fn after_local(typing: Typing, locals: Locals, item: Item<'_>) -> Option<Turn>
-    ensures { (k : Written → State) (p : Place) → taken result k ≡ open_decls_on locals.levels locals.decls.items typing k (token item.entry p) }
+    ensures { (k : Written → State) (p : Place) → taken result k
+        ≡ open_decls_on locals.levels locals.decls.items typing k (token item.entry p) }
 {
     match item {
         Item::Mark(Mark::Comma) => take(Marks::Zero, Part::LocalName(typing, locals)),
@@ -694,7 +724,8 @@ fn target_name(
     item: Item<'_>,
     place: Place,
 ) -> Result<Option<Turn>, NoMemory>
-    ensures { IfOk result (λ x. (k : Written → State) → taken x k ≡ step (part_state (Part.TargetName aim) k) (token item.entry place)) }
+    ensures { IfOk result (λ x. (k : Written → State) →
+        taken x k ≡ step (part_state (Part.TargetName aim) k) (token item.entry place)) }
 {
     match item {
         Item::Name(name) => {
@@ -706,7 +737,7 @@ fn target_name(
 }
 
 // What comes behind a target.
-fn aimed(alloc: Global, aim: Aim, target: Target) -> Turn
+fn follow_aim(alloc: Global, aim: Aim, target: Target) -> Turn
     ensures is { (k : Written → State) → turn_state result k ≡ aim_next aim k (goal_of target) }
     ensures firm { (n : ℕ) → weight result.marks result.part n ≡ 0 }
 {
@@ -723,12 +754,12 @@ fn aimed(alloc: Global, aim: Aim, target: Target) -> Turn
             Turn { marks, part }
         }
         Aim::WriteNext(place) => {
-            let part = asked(alloc, Wish::Value(true, target, place));
+            let part = expression_for(alloc, Wish::Value(true, target, place));
             let marks = Marks::Two(Mark::Close, Mark::Equals);
             Turn { marks, part }
         }
         Aim::Assign => {
-            let part = asked(alloc, Wish::Value(false, target, at));
+            let part = expression_for(alloc, Wish::Value(false, target, at));
             let marks = Marks::One(Mark::Equals);
             Turn { marks, part }
         }
@@ -737,7 +768,8 @@ fn aimed(alloc: Global, aim: Aim, target: Target) -> Turn
 
 // What follows the name of a target.
 fn after_target(alloc: Global, name: Name, at: Place, aim: Aim, item: Item<'_>) -> Move
-    ensures is { (k : Written → State) (p : Place) → moved result k (token item.entry p) ≡ step (part_state (Part.AfterTarget name at aim) k) (token item.entry p) }
+    ensures is { (k : Written → State) (p : Place) → moved result k (token item.entry p)
+        ≡ step (part_state (Part.AfterTarget name at aim) k) (token item.entry p) }
     ensures falls { (n : ℕ) → Falls result n (1 + 2 * n) }
 {
     if is_mark(item, Mark::OpenBracket) {
@@ -745,7 +777,7 @@ fn after_target(alloc: Global, name: Name, at: Place, aim: Aim, item: Item<'_>) 
     } else {
         let index = None;
         let place = at;
-        Move::Past(aimed(alloc, aim, Target { name, index, place }))
+        Move::Past(follow_aim(alloc, aim, Target { name, index, place }))
     }
 }
 
@@ -758,8 +790,10 @@ fn after_if(
     item: Item<'_>,
     frames: &mut Vec<Open>,
 ) -> Result<Move, NoMemory>
-    ensures is { IfOk result (λ x. (p : Place) → Turns x frames.old.items frames.new.items (token item.entry p) (λ next t. step (part_state (Part.AfterIf levels cond yes) next) t)) }
-    ensures falls { IfOk result (λ x. Falls x (length frames.new.items) (1 + 2 * length frames.old.items)) }
+    ensures is { IfOk result (λ x. (p : Place) → Turns x frames.old.items frames.new.items
+        (token item.entry p) (λ next t. step (part_state (Part.AfterIf levels cond yes) next) t)) }
+    ensures falls { IfOk result (λ x.
+        Falls x (length frames.new.items) (1 + 2 * length frames.old.items)) }
 {
     if is_mark(item, Mark::Else) {
         let next = nest(levels, Open::No(cond, yes), frames)?;
@@ -772,7 +806,9 @@ fn after_if(
 
 // The body comes, behind the condition's parenthesis.
 fn enter(levels: u32, waiting: Open, frames: &mut Vec<Open>) -> Result<Turn, NoMemory>
-    ensures is { IfOk result (λ x. (k : Written → State) → turn_state x (open_next frames.new.items k) ≡ expect Mark.Close (stmt (levels - 1) (opened waiting (open_next frames.old.items k)))) }
+    ensures is { IfOk result (λ x. (k : Written → State) →
+        turn_state x (open_next frames.new.items k)
+        ≡ expect Mark.Close (stmt (levels - 1) (opened waiting (open_next frames.old.items k)))) }
     ensures firm { IfOk result (λ x. (n : ℕ) → weight x.marks x.part n ≡ 0) }
 {
     frames.push(waiting)?;
@@ -783,7 +819,8 @@ fn enter(levels: u32, waiting: Open, frames: &mut Vec<Open>) -> Result<Turn, NoM
 
 // The statement is over, behind the condition's parenthesis and the `;`.
 fn conclude(inner: Surface) -> Turn
-    ensures is { (k : Written → State) → turn_state result k ≡ expect Mark.Close (expect Mark.Semicolon (k (written inner))) }
+    ensures is { (k : Written → State) →
+        turn_state result k ≡ expect Mark.Close (expect Mark.Semicolon (k (written inner))) }
     ensures firm { (n : ℕ) → weight result.marks result.part n ≡ 0 }
 {
     let marks = Marks::Two(Mark::Close, Mark::Semicolon);
@@ -792,13 +829,15 @@ fn conclude(inner: Surface) -> Turn
 }
 
 // The expression is read that was asked for.
-fn wished(
+fn follow_wish(
     alloc: Global,
     wish: Wish,
     expr: Expr<Name>,
     frames: &mut Vec<Open>,
 ) -> Result<Turn, NoMemory>
-    ensures is { IfOk result (λ x. (k : Written → State) → turn_state x (open_next frames.new.items k) ≡ wish_next wish (open_next frames.old.items k) (tree expr)) }
+    ensures is { IfOk result (λ x. (k : Written → State) →
+        turn_state x (open_next frames.new.items k)
+        ≡ wish_next wish (open_next frames.old.items k) (tree expr)) }
     ensures firm { IfOk result (λ x. (n : ℕ) → weight x.marks x.part n ≡ 0) }
 {
     match wish {
@@ -835,11 +874,14 @@ fn read(
     mut pending: Vec<Pending>,
     frames: &mut Vec<Open>,
 ) -> Result<Turn, NoMemory>
-    ensures is { IfOk result (λ x. (k : Written → State) → turn_state x (open_next frames.new.items k) ≡ expr_next pending.items (wish_next wish (open_next frames.old.items k)) (tree expr.expr)) }
-    ensures falls { IfOk result (λ x. weight x.marks x.part (length frames.new.items) < 1 + (length pending.items + 2 * length frames.old.items)) }
+    ensures is { IfOk result (λ x. (k : Written → State) →
+        turn_state x (open_next frames.new.items k) ≡ expr_next pending.items
+        (wish_next wish (open_next frames.old.items k)) (tree expr.expr)) }
+    ensures falls { IfOk result (λ x. weight x.marks x.part (length frames.new.items)
+        < 1 + (length pending.items + 2 * length frames.old.items)) }
 {
     match pending.pop() {
-        None => wished(alloc, wish, expr.expr, frames),
+        None => follow_wish(alloc, wish, expr.expr, frames),
         Some(waiting) => {
             let next = resume(alloc, expr, waiting, &mut pending)?;
             let reading = Reading {
@@ -864,8 +906,10 @@ fn expression(
     place: Place,
     frames: &mut Vec<Open>,
 ) -> Result<Move, NoMemory>
-    ensures is { IfOk result (λ x. Turns x frames.old.items frames.new.items (token item.entry place) (λ next t. step (part_state (Part.Expr reading) next) t)) }
-    ensures falls { IfOk result (λ x. Falls x (length frames.new.items) (1 + (length reading.pending.items + 2 * length frames.old.items))) }
+    ensures is { IfOk result (λ x. Turns x frames.old.items frames.new.items
+        (token item.entry place) (λ next t. step (part_state (Part.Expr reading) next) t)) }
+    ensures falls { IfOk result (λ x. Falls x (length frames.new.items)
+        (1 + (length reading.pending.items + 2 * length frames.old.items))) }
 {
     let mut pending = reading.pending;
     let wish = reading.wish;
@@ -897,7 +941,8 @@ fn expression(
 
 /// What comes once a statement is read that another one waits for.
 pub fn close(alloc: Global, inner: Surface, waiting: Open) -> Result<Turn, NoMemory>
-    ensures is { IfOk result (λ x. (k : Written → State) → turn_state x k ≡ opened waiting k (written inner)) }
+    ensures is { IfOk result (λ x. (k : Written → State) →
+        turn_state x k ≡ opened waiting k (written inner)) }
     ensures falls { IfOk result (λ x. (n : ℕ) → weight x.marks x.part n ≤ 1 + 2 * n) }
 {
     match waiting {
@@ -924,11 +969,11 @@ pub fn close(alloc: Global, inner: Surface, waiting: Open) -> Result<Turn, NoMem
         }
         Open::Do(place) => Ok(Turn {
             marks: Marks::Two(Mark::While, Mark::Open),
-            part: asked(alloc, Wish::Do(inner, place)),
+            part: expression_for(alloc, Wish::Do(inner, place)),
         }),
         Open::Guard(mode) => Ok(Turn {
             marks: Marks::Two(Mark::When, Mark::Open),
-            part: asked(alloc, Wish::Guard(mode, inner)),
+            part: expression_for(alloc, Wish::Guard(mode, inner)),
         }),
     }
 }
@@ -943,7 +988,8 @@ fn at_once(part: Part) -> Turn
 
 // A statement more in the block.
 fn add(block: Block, inner: Surface) -> Result<Block, NoMemory>
-    ensures { IfOk result (λ b. (k : Written → State) → part_state (Part.Ready b) k ≡ opened (Open.Block block) k (written inner)) }
+    ensures { IfOk result (λ b. (k : Written → State) →
+        part_state (Part.Ready b) k ≡ opened (Open.Block block) k (written inner)) }
 {
     let mut statements = block.statements;
     statements.push(inner)?;
@@ -963,8 +1009,10 @@ pub fn offer(
     place: Place,
     frames: &mut Vec<Open>,
 ) -> Result<Move, NoMemory>
-    ensures is { IfOk result (λ x. Turns x frames.old.items frames.new.items (token item.entry place) (λ next t. step (part_state part next) t)) }
-    ensures falls { IfOk result (λ x. Falls x (length frames.new.items) (weight Marks.Zero part (length frames.old.items))) }
+    ensures is { IfOk result (λ x. Turns x frames.old.items frames.new.items
+        (token item.entry place) (λ next t. step (part_state part next) t)) }
+    ensures falls { IfOk result (λ x.
+        Falls x (length frames.new.items) (weight Marks.Zero part (length frames.old.items))) }
 {
     match part {
         Part::Expr(reading) => expression(alloc, reading, item, place, frames),
@@ -973,7 +1021,7 @@ pub fn offer(
             local_init(part, typing, name, at, locals, item, place)
         }
         Part::AfterTarget(name, at, aim) => Ok(after_target(alloc, name, at, aim, item)),
-        Part::Aimed(aim, target) => Ok(Move::Past(aimed(alloc, aim, target))),
+        Part::Aimed(aim, target) => Ok(Move::Past(follow_aim(alloc, aim, target))),
         Part::AfterIf(levels, cond, yes) => after_if(alloc, levels, cond, yes, item, frames),
         Part::Done(inner) => Ok(Move::Over(inner)),
         Part::Locals(locals) => {
@@ -994,7 +1042,7 @@ pub fn offer(
         }
         Part::Declared(typing, locals) => Ok(settle(after_local(typing, locals, item))),
         Part::AfterWord(name, at) => Ok(settle(after_word(alloc, name, at, item))),
-        Part::Labelled => Ok(settle(labelled(alloc, item, place))),
+        Part::Labelled => Ok(settle(after_label(alloc, item, place))),
         Part::AfterImmediate(levels, at) => {
             let next = after_immediate(alloc, levels, at, item, frames)?;
             Ok(settle(next))
@@ -1029,8 +1077,10 @@ pub fn offer(
 
 /// What is left of a statement of which this is to come, where the tokens end.
 pub fn leave(alloc: Global, part: Part, frames: &mut Vec<Open>) -> Result<Leaving, NoMemory>
-    ensures is { IfOk result (λ x. (k : Written → State) → left x (open_next frames.new.items k) ≡ ended (part_state part (open_next frames.old.items k))) }
-    ensures falls { IfOk result (λ x. LeavesLess x (length frames.new.items) (weight Marks.Zero part (length frames.old.items))) }
+    ensures is { IfOk result (λ x. (k : Written → State) → left x (open_next frames.new.items k)
+        ≡ ended (part_state part (open_next frames.old.items k))) }
+    ensures falls { IfOk result (λ x.
+        LeavesLess x (length frames.new.items) (weight Marks.Zero part (length frames.old.items))) }
 {
     match part {
         Part::Expr(reading) => leave_expression(alloc, reading, frames),
@@ -1047,9 +1097,9 @@ pub fn leave(alloc: Global, part: Part, frames: &mut Vec<Open>) -> Result<Leavin
         },
         Part::AfterTarget(name, place, aim) => {
             let index = None;
-            Ok(Leaving::Past(aimed(alloc, aim, Target { name, index, place })))
+            Ok(Leaving::Past(follow_aim(alloc, aim, Target { name, index, place })))
         }
-        Part::Aimed(aim, target) => Ok(Leaving::Past(aimed(alloc, aim, target))),
+        Part::Aimed(aim, target) => Ok(Leaving::Past(follow_aim(alloc, aim, target))),
         Part::AfterIf(_, cond, yes) => {
             let alone = built::only_if(alloc, cond, yes)?;
             Ok(Leaving::Over(alone))
@@ -1064,8 +1114,10 @@ fn leave_expression(
     reading: Reading,
     frames: &mut Vec<Open>,
 ) -> Result<Leaving, NoMemory>
-    ensures is { IfOk result (λ x. (k : Written → State) → left x (open_next frames.new.items k) ≡ ended (part_state (Part.Expr reading) (open_next frames.old.items k))) }
-    ensures falls { IfOk result (λ x. LeavesLess x (length frames.new.items) (1 + (length reading.pending.items + 2 * length frames.old.items))) }
+    ensures is { IfOk result (λ x. (k : Written → State) → left x (open_next frames.new.items k)
+        ≡ ended (part_state (Part.Expr reading) (open_next frames.old.items k))) }
+    ensures falls { IfOk result (λ x. LeavesLess x (length frames.new.items)
+        (1 + (length reading.pending.items + 2 * length frames.old.items))) }
 {
     match whole(reading.room, reading.piece) {
         Some(expr) => {

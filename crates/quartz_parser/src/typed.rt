@@ -71,7 +71,7 @@ pub enum InitOutcome {
     Stuck,
 }
 
-fn shaped(storage: Storage, shape: Shape, base: Base, place: Option<Place>) -> Typing
+fn typing_with(storage: Storage, shape: Shape, base: Base, place: Option<Place>) -> Typing
     ensures { result ≡ shaped storage shape base place }
 {
     let (len, len_place) = match shape {
@@ -97,12 +97,14 @@ fn sized_base(scalar: Scalar, size: u128) -> Base
 }
 
 fn base(storage: Storage, shape: Shape, item: Item<'_>) -> Option<NextType>
-    ensures { (next : Typing → State) (outer : Option State) (p : Place) → reads_type result next outer ≡ base_on (λ b q. next (shaped storage shape b q)) (token item.entry p) outer }
+    ensures { (next : Typing → State) (outer : Option State) (p : Place) →
+        reads_type result next outer ≡ base_on (λ b q.
+        next (shaped storage shape b q)) (token item.entry p) outer }
 {
     match item {
         Item::Mark(Mark::Bool) => Some(NextType {
             marks: Marks::Zero,
-            part: TypePart::Nothing(shaped(storage, shape, Base::Bool, None)),
+            part: TypePart::Nothing(typing_with(storage, shape, Base::Bool, None)),
         }),
         Item::Scalar(scalar) => Some(NextType {
             marks: Marks::One(Mark::OpenBrace),
@@ -112,8 +114,9 @@ fn base(storage: Storage, shape: Shape, item: Item<'_>) -> Option<NextType>
     }
 }
 
-fn unstored(storage: Storage, item: Item<'_>) -> Option<NextType>
-    ensures { (next : Typing → State) (outer : Option State) (p : Place) → reads_type result next outer ≡ type_on storage next (token item.entry p) outer }
+fn head_without_storage(storage: Storage, item: Item<'_>) -> Option<NextType>
+    ensures { (next : Typing → State) (outer : Option State) (p : Place) →
+        reads_type result next outer ≡ type_on storage next (token item.entry p) outer }
 {
     if is_mark(item, Mark::OpenBracket) {
         Some(NextType {
@@ -136,41 +139,49 @@ fn storage_in(item: Item<'_>) -> Option<Storage>
 
 /// What is to come where a token begins a type or its storage.
 pub fn head(item: Item<'_>) -> Option<NextType>
-    ensures { (next : Typing → State) (outer : Option State) (p : Place) → reads_type result next outer ≡ head_on next (token item.entry p) outer }
+    ensures { (next : Typing → State) (outer : Option State) (p : Place) →
+        reads_type result next outer ≡ head_on next (token item.entry p) outer }
 {
     match storage_in(item) {
         Some(storage) => Some(NextType {
             marks: Marks::Zero,
             part: TypePart::Stored(storage),
         }),
-        None => unstored(Storage::Mem, item),
+        None => head_without_storage(Storage::Mem, item),
     }
 }
 
 /// Whether the type may be over here, and then the type.
 pub fn whole_type(part: TypePart) -> Option<Typing>
-    ensures { (next : Typing → State) → MatchOption result (ended (type_state part next) ≡ None) (λ ty. ended (type_state part next) ≡ ended (next ty)) }
+    ensures { (next : Typing → State) → MatchOption result (ended (type_state part next)
+        ≡ None) (λ ty. ended (type_state part next) ≡ ended (next ty)) }
 {
     match part {
-        TypePart::Stored(storage) => Some(shaped(storage, Shape::Single, Base::Bool, None)),
+        TypePart::Stored(storage) => Some(typing_with(storage, Shape::Single, Base::Bool, None)),
         TypePart::Nothing(typing) => Some(typing),
         _ => None,
     }
 }
 
-fn sized(
+fn want_size(
     scalar: Scalar,
     storage: Storage,
     shape: Shape,
     item: Item<'_>,
     place: Place,
 ) -> TypeOutcome
-    ensures { (next : Typing → State) → type_outcome result next (token item.entry place) ≡ step (type_state (TypePart.Size scalar storage shape) next) (token item.entry place) }
+    ensures { (next : Typing → State) → type_outcome result next (token item.entry place)
+        ≡ step (type_state (TypePart.Size scalar storage shape) next) (token item.entry place) }
 {
     match item {
         Item::Number(size) => TypeOutcome::Taken(NextType {
             marks: Marks::One(Mark::CloseBrace),
-            part: TypePart::Nothing(shaped(storage, shape, sized_base(scalar, size), Some(place))),
+            part: TypePart::Nothing(typing_with(
+                storage,
+                shape,
+                sized_base(scalar, size),
+                Some(place),
+            )),
         }),
         _ => TypeOutcome::Stuck,
     }
@@ -178,12 +189,13 @@ fn sized(
 
 /// What a token does to a type of which this is to come.
 pub fn offer_type(part: TypePart, item: Item<'_>, place: Place) -> TypeOutcome
-    ensures { (next : Typing → State) → type_outcome result next (token item.entry place) ≡ step (type_state part next) (token item.entry place) }
+    ensures { (next : Typing → State) → type_outcome result next (token item.entry place)
+        ≡ step (type_state part next) (token item.entry place) }
 {
     match part {
-        TypePart::Stored(storage) => match unstored(storage, item) {
+        TypePart::Stored(storage) => match head_without_storage(storage, item) {
             Some(next) => TypeOutcome::Taken(next),
-            None => TypeOutcome::Over(shaped(storage, Shape::Single, Base::Bool, None)),
+            None => TypeOutcome::Over(typing_with(storage, Shape::Single, Base::Bool, None)),
         },
         TypePart::Len(storage) => match item {
             Item::Number(len) => TypeOutcome::Taken(NextType {
@@ -196,13 +208,14 @@ pub fn offer_type(part: TypePart, item: Item<'_>, place: Place) -> TypeOutcome
             Some(next) => TypeOutcome::Taken(next),
             None => TypeOutcome::Stuck,
         },
-        TypePart::Size(scalar, storage, shape) => sized(scalar, storage, shape, item, place),
+        TypePart::Size(scalar, storage, shape) => want_size(scalar, storage, shape, item, place),
         TypePart::Nothing(typing) => TypeOutcome::Over(typing),
     }
 }
 
 fn constant(item: Item<'_>, place: Place) -> InitOutcome
-    ensures { (next : Option Init → State) → init_outcome result next (token item.entry place) ≡ const_on (λ i. next (Some i)) (token item.entry place) }
+    ensures { (next : Option Init → State) → init_outcome result next (token item.entry place)
+        ≡ const_on (λ i. next (Some i)) (token item.entry place) }
 {
     let value = match item {
         Item::Truth(value) => Start::Truth(value),
@@ -219,7 +232,8 @@ fn constant(item: Item<'_>, place: Place) -> InitOutcome
 
 /// Whether the start value may be over here, and then what there is of it.
 pub fn whole_init(part: InitPart) -> Option<Option<Init>>
-    ensures { (next : Option Init → State) → MatchOption result (ended (init_state part next) ≡ None) (λ i. ended (init_state part next) ≡ ended (next i)) }
+    ensures { (next : Option Init → State) → MatchOption result
+        (ended (init_state part next) ≡ None) (λ i. ended (init_state part next) ≡ ended (next i)) }
 {
     match part {
         InitPart::Equals => Some(None),
@@ -230,7 +244,8 @@ pub fn whole_init(part: InitPart) -> Option<Option<Init>>
 
 /// What a token does to a start value of which this is to come.
 pub fn offer_init(part: InitPart, item: Item<'_>, place: Place) -> InitOutcome
-    ensures { (next : Option Init → State) → init_outcome result next (token item.entry place) ≡ step (init_state part next) (token item.entry place) }
+    ensures { (next : Option Init → State) → init_outcome result next (token item.entry place)
+        ≡ step (init_state part next) (token item.entry place) }
 {
     match part {
         InitPart::Equals => {

@@ -1,3 +1,5 @@
+//! Copies of trees, which take memory and equal what they copy.
+
 ghost use Rattle.std.specs.Prelude.{◌≡◌, IfOk};
 ghost use Rattle.quartz_tree.specs.Surfaces.{goal_of};
 ghost use Rattle.quartz_tree.specs.Tree.{place_of, tree};

@@ -1,3 +1,8 @@
+//! Types, storage, flow and start values of variables, and declarations.
+
+ghost use Rattle.std.specs.Prelude.{◌≡◌};
+ghost use Rattle.quartz_tree.specs.Storage.{is_memorized};
+
 use crate::name::Name;
 use crate::place::Place;
 
@@ -28,6 +33,18 @@ pub enum Storage {
     Mem,
     /// 0.
     Event,
+}
+
+impl Storage {
+    /// Whether a variable keeps its value in a step in which nothing writes it.
+    pub fn is_memorized(self) -> bool
+        ensures { result ≡ is_memorized self }
+    {
+        match self {
+            Storage::Mem => true,
+            Storage::Event => false,
+        }
+    }
 }
 
 /// Who reads and writes a variable.

@@ -1,3 +1,5 @@
+//! The derived statements, put in terms of the others.
+
 ghost use Rattle.std.specs.Prelude.{◌≡◌, IfOk, map};
 ghost use Rattle.quartz_tree.specs.Expand.{await_of, expanded, forever, negated, then_pause, while_of};
 ghost use Rattle.quartz_tree.specs.Surfaces.{choose, choose_one, do_while, goal_of, write, written};
@@ -12,7 +14,7 @@ use crate::surface::{Surface, Target};
 use std::alloc::Global;
 
 // `!cond`, at the place of `cond`.
-fn negated(alloc: Global, cond: &Expr<Name>) -> Result<Expr<Name>, NoMemory>
+fn negate(alloc: Global, cond: &Expr<Name>) -> Result<Expr<Name>, NoMemory>
     ensures { IfOk result (λ e. tree e ≡ negated (tree cond.now)) }
 {
     Ok(Expr::One {
@@ -47,12 +49,7 @@ fn if_else(alloc: Global, cond: Expr<Name>, yes: Surface, no: Surface) -> Result
 }
 
 // `do body while(cond);`
-fn repeated(
-    alloc: Global,
-    body: Surface,
-    cond: Expr<Name>,
-    place: Place,
-) -> Result<Surface, NoMemory>
+fn repeat(alloc: Global, body: Surface, cond: Expr<Name>, place: Place) -> Result<Surface, NoMemory>
     ensures { IfOk result (λ s. written s ≡ do_while (written body) (tree cond) place) }
 {
     Ok(Surface::Do {
@@ -66,7 +63,7 @@ fn repeated(
 fn forever(alloc: Global, body: Surface, place: Place) -> Result<Surface, NoMemory>
     ensures { IfOk result (λ s. written s ≡ forever (written body) place) }
 {
-    repeated(alloc, body, Expr::Truth { value: true, place }, place)
+    repeat(alloc, body, Expr::Truth { value: true, place }, place)
 }
 
 // `if(cond) do body while(cond);`
@@ -78,7 +75,7 @@ fn while_loop(
 ) -> Result<Surface, NoMemory>
     ensures { IfOk result (λ s. written s ≡ while_of (tree cond.now) (written body) place) }
 {
-    let again = repeated(alloc, body, cond.copied(alloc)?, place)?;
+    let again = repeat(alloc, body, cond.copied(alloc)?, place)?;
     only_if(alloc, cond.copied(alloc)?, again)
 }
 
@@ -91,11 +88,11 @@ fn wait(
 ) -> Result<Surface, NoMemory>
     ensures { IfOk result (λ s. written s ≡ await_of immediate (tree cond.now) place) }
 {
-    let absent = negated(alloc, cond)?;
+    let absent = negate(alloc, cond)?;
     if immediate {
         while_loop(alloc, &absent, Surface::Pause, place)
     } else {
-        repeated(alloc, Surface::Pause, absent, place)
+        repeat(alloc, Surface::Pause, absent, place)
     }
 }
 
@@ -193,7 +190,7 @@ pub fn expand(alloc: Global, body: &Surface) -> Result<Surface, NoMemory>
             while_loop(alloc, cond, expand(alloc, body)?, *place)
         }
         Surface::Do { body, cond, place } => {
-            repeated(alloc, expand(alloc, body)?, cond.copied(alloc)?, *place)
+            repeat(alloc, expand(alloc, body)?, cond.copied(alloc)?, *place)
         }
         Surface::Guard {
             abort,

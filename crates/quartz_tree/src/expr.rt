@@ -1,3 +1,5 @@
+//! Expressions as trees.
+
 use crate::place::Place;
 
 /// The operators before one operand.

@@ -1,3 +1,5 @@
+//! The faults that a macro step can have.
+
 use crate::place::Place;
 
 /// The kinds of fault that a macro step can have, in their order at one place.

@@ -1,4 +1,4 @@
-//! Syntax trees of Quartz: names, places, types, expressions, statements as written and kernel statements.
+//! Syntax trees of Quartz: names, places, types, expressions, and statements of both kinds.
 #![tactic(auto)]
 
 mod copy;

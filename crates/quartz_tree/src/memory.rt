@@ -1,3 +1,5 @@
+//! Want of memory, as an error.
+
 ghost use Rattle.std.specs.Prelude.{◌≡◌};
 
 use std::alloc::{AllocError, AllocFailed};

@@ -1,3 +1,5 @@
+//! Names as lists of bytes.
+
 ghost use Rattle.std.specs.Prelude.{◌≡◌, IfOk};
 
 use crate::memory::NoMemory;

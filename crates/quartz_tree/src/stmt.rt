@@ -1,3 +1,5 @@
+//! Kernel statements.
+
 use crate::expr::Expr;
 use crate::place::Place;
 

@@ -1,3 +1,5 @@
+//! Statements and modules as written.
+
 use crate::declare::Decl;
 use crate::expr::Expr;
 use crate::name::Name;

@@ -1,3 +1,5 @@
+//! The rule of bounds in declarations.
+
 ghost use Rattle.std.specs.Prelude.{◌≡◌};
 ghost use Rattle.quartz_expr.specs.Intervals.{type_breaks};
 ghost use Rattle.quartz_tree.specs.Least.{least_place};

@@ -1,3 +1,5 @@
+//! The interval of an expression, and the rule of bounds in it.
+
 ghost use Rattle.std.specs.Prelude.{◌≡◌, not, ◌^◌, ◌≤◌, ◌-◌, ◌≤ℤ◌, int_le, pos, nat_le, ◌&&◌};
 ghost use Rattle.quartz_expr.specs.Intervals.{are_sound_bits, bits_interval, bound_breaks, interval, is_inside, is_small, is_sound_slice, is_sound_target, is_sound_two, kind_interval, one_interval, only, range_of, sound_or_nought, span, two_interval, type_interval};
 ghost use Rattle.quartz_expr.specs.Value.{width_in};
@@ -35,7 +37,8 @@ fn exactly(value: u128) -> Bounds
 }
 
 fn number(value: u128) -> Bounds
-    ensures { span result.low result.high ≡ sound_or_nought (nat_le value (2 ^ 62)) (only (pos value)) }
+    ensures { span result.low result.high
+        ≡ sound_or_nought (nat_le value (2 ^ 62)) (only (pos value)) }
 {
     if value <= 1 << 62 {
         exactly(value)
@@ -53,7 +56,8 @@ fn are_sound_bits(width: u32, value: u128) -> bool
 #[tactic(auto, using(crate::proofs::BoundLemmas::bits_below))]
 fn literal_bits(width: u32, value: u128) -> Settled
     ensures sound { result.sound ≡ are_sound_bits width value }
-    ensures bounds { span result.bounds.low result.bounds.high ≡ sound_or_nought (are_sound_bits width value) (only (pos value)) }
+    ensures bounds { span result.bounds.low result.bounds.high
+        ≡ sound_or_nought (are_sound_bits width value) (only (pos value)) }
 {
     if are_sound_bits(width, value) {
         Settled {
@@ -107,7 +111,8 @@ fn width_in(kind: Option<ExprKind>) -> u32
 
 fn judged(wide: Wide) -> Settled
     ensures sound { result.sound ≡ is_small (span wide.low wide.high) }
-    ensures bounds { span result.bounds.low result.bounds.high ≡ sound_or_nought (is_small (span wide.low wide.high)) (span wide.low wide.high) }
+    ensures bounds { span result.bounds.low result.bounds.high
+        ≡ sound_or_nought (is_small (span wide.low wide.high)) (span wide.low wide.high) }
 {
     Settled {
         bounds: small_or_nought(wide),
@@ -119,7 +124,8 @@ fn judged(wide: Wide) -> Settled
 fn kind_or_nought(sound: bool, kind: Option<ExprKind>) -> Settled
     requires { width_in kind ≤ 33 }
     ensures sound { result.sound ≡ sound }
-    ensures bounds { span result.bounds.low result.bounds.high ≡ sound_or_nought sound (kind_interval kind) }
+    ensures bounds { span result.bounds.low result.bounds.high
+        ≡ sound_or_nought sound (kind_interval kind) }
 {
     if sound {
         Settled {
@@ -137,15 +143,19 @@ fn kind_or_nought(sound: bool, kind: Option<ExprKind>) -> Settled
 fn settled_one(op: Unary, kind: Option<ExprKind>, a: Bounds) -> Settled
     requires { width_in kind ≤ 33 }
     ensures sound { result.sound ≡ is_small (one_interval op kind (span a.low a.high)) }
-    ensures bounds { span result.bounds.low result.bounds.high ≡ sound_or_nought (is_small (one_interval op kind (span a.low a.high))) (one_interval op kind (span a.low a.high)) }
+    ensures bounds { span result.bounds.low result.bounds.high ≡ sound_or_nought (is_small
+        (one_interval op kind (span a.low a.high))) (one_interval op kind (span a.low a.high)) }
 {
     judged(of_one(op, kind, a))
 }
 
 fn settled_two(op: Binary, kind: Option<ExprKind>, a: Bounds, b: Bounds) -> Settled
     requires { width_in kind ≤ 33 }
-    ensures sound { result.sound ≡ is_sound_two op kind (two_interval op kind (span a.low a.high) (span b.low b.high)) }
-    ensures bounds { span result.bounds.low result.bounds.high ≡ sound_or_nought (is_sound_two op kind (two_interval op kind (span a.low a.high) (span b.low b.high))) (two_interval op kind (span a.low a.high) (span b.low b.high)) }
+    ensures sound { result.sound ≡ is_sound_two op kind
+        (two_interval op kind (span a.low a.high) (span b.low b.high)) }
+    ensures bounds { span result.bounds.low result.bounds.high ≡ sound_or_nought
+        (is_sound_two op kind (two_interval op kind (span a.low a.high) (span b.low b.high)))
+        (two_interval op kind (span a.low a.high) (span b.low b.high)) }
 {
     match op {
         Binary::Cat => kind_or_nought(width_in(kind) <= 32, kind),
@@ -207,7 +217,9 @@ fn is_inside_bits(a: Bounds, width: u128) -> bool
 
 fn settled_bits(a: Bounds, width: u128) -> Settled
     ensures sound { result.sound ≡ is_inside (span a.low a.high) (bits_interval width) }
-    ensures bounds { span result.bounds.low result.bounds.high ≡ sound_or_nought (is_sound_target width && is_inside (span a.low a.high) (bits_interval width)) (bits_interval width) }
+    ensures bounds { span result.bounds.low result.bounds.high
+        ≡ sound_or_nought (is_sound_target width && is_inside (span a.low a.high)
+        (bits_interval width)) (bits_interval width) }
 {
     let sound = is_inside_bits(a, width);
     if is_sound_target(width) && sound {
@@ -246,8 +258,10 @@ fn in_bounds(kind: Option<ExprKind>, bounds: Bounds, broken: Option<Place>) -> B
 // A form with an interval of its own, behind the breaks of its parts.
 fn behind(broken: Option<Place>, kind: Option<ExprKind>, own: Settled, place: Place) -> Bounded
     ensures kind { result.kind ≡ kind }
-    ensures bounds { span result.bounds.low result.bounds.high ≡ span own.bounds.low own.bounds.high }
-    ensures broken { result.broken ≡ lesser_place broken (least_place (place_if (not own.sound) place)) }
+    ensures bounds { span result.bounds.low result.bounds.high
+        ≡ span own.bounds.low own.bounds.high }
+    ensures broken { result.broken ≡ lesser_place broken
+        (least_place (place_if (not own.sound) place)) }
 {
     Bounded {
         kind,

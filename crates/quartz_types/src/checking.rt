@@ -1,3 +1,5 @@
+//! The rules of a module, judged in their order.
+
 ghost use Rattle.std.specs.Prelude.{◌≡◌, ◌↔◌, ℕ, IfOk, IsErrOf, None, Some};
 ghost use Rattle.quartz_tree.specs.declared.place.Place.{Place};
 ghost use Rattle.quartz_tree.specs.Kernel.{kernel};
@@ -54,7 +56,8 @@ pub fn first_break(vars: &[Var], body: &Stmt) -> Option<(u8, Place)>
 pub fn check(_alloc: Global, resolved: Resolved) -> Result<Typed, TypeFault>
     requires { IsResolved resolved }
     ensures same { IfOk result (λ t. t.resolved ≡ resolved) }
-    ensures broken { (r : ℕ) (p : Place) → IsErrOf result (TypeFault.Rule r p) ↔ (first_break resolved.vars (kernel resolved.body) ≡ Some (r, p)) }
+    ensures broken { (r : ℕ) (p : Place) → IsErrOf result (TypeFault.Rule r p)
+        ↔ (first_break resolved.vars (kernel resolved.body) ≡ Some (r, p)) }
     ensures no_memory { ¬ (IsErrOf result TypeFault.NoMemory) }
 {
     match first_break(resolved.vars.as_slice(), &resolved.body) {

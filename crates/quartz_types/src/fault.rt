@@ -1,3 +1,5 @@
+//! Why a resolved module is refused.
+
 use quartz_tree::Place;
 use thiserror::Error;
 

@@ -1,3 +1,5 @@
+//! The rule that no input is written.
+
 ghost use Rattle.std.specs.Prelude.{◌≡◌, map};
 ghost use Rattle.quartz_tree.specs.Kernel.{kernel, kernels};
 ghost use Rattle.quartz_tree.specs.Least.{least_place};

@@ -1,3 +1,5 @@
+//! The rule of kinds.
+
 ghost use Rattle.std.specs.Prelude.{◌≡◌, ◌&&◌, is_none, is_some, map, option_map, None, Some};
 ghost use Rattle.quartz_expr.specs.Kinds.{is_index, kind, kind_breaks, place_if};
 ghost use Rattle.quartz_expr.specs.Vars.{is_array};
@@ -75,7 +77,8 @@ fn sound(kind: ExprKind) -> Kinded
 // A form of one part: it breaks the rule where the part has a kind and the whole has none.
 fn formed(part: Kinded, kind: Option<ExprKind>, place: Place) -> Kinded
     ensures kind { result.kind ≡ kind }
-    ensures broken { result.broken ≡ lesser_place part.broken (least_place (place_if (is_some part.kind && is_none kind) place)) }
+    ensures broken { result.broken ≡ lesser_place part.broken
+        (least_place (place_if (is_some part.kind && is_none kind) place)) }
 {
     let own = part.kind.is_some() && kind.is_none();
     Kinded {
@@ -214,7 +217,8 @@ pub fn least_constant_break(vars: &[Var]) -> Option<Place>
 #[tactic(auto, using(quartz_names::proofs::LeastLemmas::least_append))]
 fn judge_target(vars: &[Var], var: u32, index: &Option<Expr<u32>>, place: Place) -> Kinded
     ensures kind { result.kind ≡ target_kind vars.now var (option_map tree index.now) place }
-    ensures broken { result.broken ≡ least_place (target_kind_breaks vars.now var (option_map tree index.now) place) }
+    ensures broken { result.broken
+        ≡ least_place (target_kind_breaks vars.now var (option_map tree index.now) place) }
 {
     match index {
         None => Kinded {
@@ -242,7 +246,8 @@ fn least_write_break(
     place: Place,
     target_place: Place,
 ) -> Option<Place>
-    ensures { result ≡ least_place (write_kind_breaks vars.now var (option_map tree index.now) (tree value.now) place target_place) }
+    ensures { result ≡ least_place (write_kind_breaks vars.now var
+        (option_map tree index.now) (tree value.now) place target_place) }
 {
     let target = judge_target(vars, var, index, target_place);
     let value = judge_kinds(value, vars);

@@ -1,3 +1,5 @@
+//! The rule that no loop has a body that may be instant.
+
 ghost use Rattle.std.specs.Prelude.{◌≡◌, ◌&&◌, ◌||◌, map};
 ghost use Rattle.quartz_expr.specs.Terms.{are_instant, is_instant, term_of, terms_of};
 ghost use Rattle.quartz_tree.specs.Kernel.{kernel, kernels};
@@ -41,7 +43,8 @@ fn both(a: Loops, b: Loops) -> Loops
 // A loop around the statement.
 fn repeated(body: Loops, place: Place) -> Loops
     ensures instant { result.instant ≡ body.instant }
-    ensures broken { result.broken ≡ lesser_place (least_place (place_if body.instant place)) body.broken }
+    ensures broken { result.broken
+        ≡ lesser_place (least_place (place_if body.instant place)) body.broken }
 {
     Loops {
         instant: body.instant,
@@ -98,7 +101,8 @@ fn looping_inside(stmt: &Stmt) -> Loops
 #[tactic(auto, using(quartz_names::proofs::LeastLemmas::least_append))]
 fn all_looping(stmts: &[Stmt]) -> Loops
     ensures instant { result.instant ≡ are_instant (terms_of (kernels (map kernel stmts.now))) }
-    ensures broken { result.broken ≡ least_place (all_instant_loops (kernels (map kernel stmts.now))) }
+    ensures broken { result.broken
+        ≡ least_place (all_instant_loops (kernels (map kernel stmts.now))) }
 {
     let mut all = Loops {
         instant: true,

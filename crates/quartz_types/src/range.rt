@@ -1,3 +1,5 @@
+//! Intervals of whole numbers, and what operators make of them.
+
 ghost use Rattle.std.specs.Prelude.{◌≡◌, ◌-◌, ◌^◌, ◌≤◌, ◌≤ℤ◌, ◌+ℤ◌, ◌-ℤ◌, ◌*ℤ◌, int_div, neg_ℤ, pos};
 ghost use Rattle.quartz_expr.specs.Intervals.{bits_interval, difference_interval, from_ends, hull, is_small, kind_interval, one_interval, only, product_interval, quotient_interval, remainder_interval, size_of, sound_or_nought, span, sum_interval, two_interval};
 ghost use Rattle.std.specs.Int.{int_max, int_min};
@@ -37,7 +39,8 @@ pub(crate) fn is_small(wide: Wide) -> bool
 
 /// The interval, where it is small, and else 0 alone.
 pub(crate) fn small_or_nought(wide: Wide) -> Bounds
-    ensures { span result.low result.high ≡ sound_or_nought (is_small (span wide.low wide.high)) (span wide.low wide.high) }
+    ensures { span result.low result.high
+        ≡ sound_or_nought (is_small (span wide.low wide.high)) (span wide.low wide.high) }
 {
     if is_small(wide) {
         Bounds {
@@ -93,7 +96,8 @@ fn sum(a: Bounds, b: Bounds) -> Wide
 }
 
 fn difference(a: Bounds, b: Bounds) -> Wide
-    ensures { span result.low result.high ≡ difference_interval (span a.low a.high) (span b.low b.high) }
+    ensures { span result.low result.high
+        ≡ difference_interval (span a.low a.high) (span b.low b.high) }
 {
     from_to(minus(a.low, b.high), minus(a.high, b.low))
 }
@@ -131,7 +135,8 @@ fn product_of(x: i64, y: i64) -> i128
 }
 
 fn product(a: Bounds, b: Bounds) -> Wide
-    ensures { span result.low result.high ≡ product_interval (span a.low a.high) (span b.low b.high) }
+    ensures { span result.low result.high
+        ≡ product_interval (span a.low a.high) (span b.low b.high) }
 {
     of_ends(
         product_of(a.low, b.low),
@@ -173,7 +178,8 @@ fn opposite(x: i128) -> i128
 // Where the divisor is positive.
 fn quotient_of_ends(a: Bounds, b: Bounds) -> Wide
     requires { pos 1 ≤ℤ b.low }
-    ensures { span result.low result.high ≡ from_ends int_div (span a.low a.high) (span b.low b.high) }
+    ensures { span result.low result.high
+        ≡ from_ends int_div (span a.low a.high) (span b.low b.high) }
 {
     of_ends(
         quotient_of(a.low, b.low),
@@ -193,7 +199,8 @@ fn around_zero(x: i128) -> Wide
 }
 
 fn quotient(a: Bounds, b: Bounds) -> Wide
-    ensures { span result.low result.high ≡ quotient_interval (span a.low a.high) (span b.low b.high) }
+    ensures { span result.low result.high
+        ≡ quotient_interval (span a.low a.high) (span b.low b.high) }
 {
     if 1 <= b.low {
         return quotient_of_ends(a, b);
@@ -222,7 +229,8 @@ fn one_less(x: i128) -> i128
 }
 
 fn remainder(a: Bounds, b: Bounds) -> Wide
-    ensures { span result.low result.high ≡ remainder_interval (span a.low a.high) (span b.low b.high) }
+    ensures { span result.low result.high
+        ≡ remainder_interval (span a.low a.high) (span b.low b.high) }
 {
     let greatest = size(b);
     if greatest == 0 {
@@ -294,7 +302,8 @@ pub(crate) fn of_one(op: Unary, kind: Option<ExprKind>, a: Bounds) -> Wide
 /// The interval of an operator between two parts.
 pub(crate) fn of_two(op: Binary, kind: Option<ExprKind>, a: Bounds, b: Bounds) -> Wide
     requires { width_in kind ≤ 33 }
-    ensures { span result.low result.high ≡ two_interval op kind (span a.low a.high) (span b.low b.high) }
+    ensures { span result.low result.high
+        ≡ two_interval op kind (span a.low a.high) (span b.low b.high) }
 {
     match op {
         Binary::Add => sum(a, b),

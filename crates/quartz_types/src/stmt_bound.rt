@@ -1,3 +1,5 @@
+//! The rule of bounds in statements.
+
 ghost use Rattle.std.specs.Prelude.{◌≡◌, map, option_map};
 ghost use Rattle.quartz_tree.specs.Kernel.{kernel, kernels};
 ghost use Rattle.quartz_tree.specs.Least.{least_place};
@@ -21,7 +23,8 @@ fn least_index_bound_break(index: &Option<Expr<u32>>, vars: &[Var]) -> Option<Pl
 // The least place at which a write's index or value breaks a bound.
 #[tactic(auto, using(quartz_names::proofs::LeastLemmas::least_append))]
 fn least_write_break(index: &Option<Expr<u32>>, value: &Expr<u32>, vars: &[Var]) -> Option<Place>
-    ensures { result ≡ least_place (write_bound_breaks vars.now (option_map tree index.now) (tree value.now)) }
+    ensures { result
+        ≡ least_place (write_bound_breaks vars.now (option_map tree index.now) (tree value.now)) }
 {
     let index = least_index_bound_break(index, vars);
     lesser_place(index, least_expr_bound_break(value, vars))

@@ -1,3 +1,5 @@
+//! Modules that break none of the rules.
+
 ghost use Rattle.std.specs.Prelude.{◌≡◌, None};
 ghost use Rattle.quartz_tree.specs.Kernel.{kernel};
 ghost use Rattle.quartz_names.specs.Numbered.{IsResolved};

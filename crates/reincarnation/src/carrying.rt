@@ -1,3 +1,5 @@
+//! What the registers of a scope's variable take for the next step.
+
 ghost use Rattle.std.specs.Prelude.{◌≡◌, ◌+◌, ◌*◌, ◌<◌, ◌≤◌, ◌^◌, [], ◌∷◌, length, map, pos, slice_get, slice_index_or, IfOk, OnOk};
 ghost use Rattle.quartz_tree.specs.declared.declare.Var.{Var as AnyVar};
 ghost use Rattle.aif_cells.specs.Tree.{cases, tree, value};
@@ -12,8 +14,8 @@ use quartz_tree::{NoMemory, Place, Storage, Var};
 use sqlite_items::Items;
 use std::alloc::Global;
 
-/// Sets what the registers of a scope's variable take for the next step: what the copy has that was entered, else what
-/// the depth copy has.
+/// Sets what the registers of a scope's variable take for the next step: what the copy has that was
+/// entered, else what the depth copy has.
 ///
 /// After an error the `Aif` is to be dropped.
 pub fn carry(
@@ -26,10 +28,16 @@ pub fn carry(
 ) -> Result<(), NoMemory>
     requires var { var < length aif.old.vars }
     requires few { length aif.old.registers < 2 ^ 32 }
-    requires elements { (v : AnyVar) → slice_get aif.old.vars var ≡ Some v → elements_of v < 2 ^ 64 }
-    requires registers { (v : AnyVar) → slice_get aif.old.vars var ≡ Some v → first + elements_of v * length (parts_of v) ≤ length aif.old.registers }
-    ensures carried { OnOk result ((v : AnyVar) → slice_get aif.old.vars var ≡ Some v → stores aif.new.registers aif.new.cells ≡ carried v copies.now depth.now first (stores aif.old.registers aif.old.cells)) }
-    ensures rest { OnOk result (aif.new ≡ record aif.old { registers = aif.new.registers; cells = aif.new.cells }) }
+    requires elements { (v : AnyVar) → slice_get aif.old.vars var ≡ Some v
+        → elements_of v < 2 ^ 64 }
+    requires registers { (v : AnyVar) → slice_get aif.old.vars var ≡ Some v
+        → first + elements_of v * length (parts_of v) ≤ length aif.old.registers }
+    ensures carried { OnOk result
+        ((v : AnyVar) → slice_get aif.old.vars var ≡ Some v
+        → stores aif.new.registers aif.new.cells
+        ≡ carried v copies.now depth.now first (stores aif.old.registers aif.old.cells)) }
+    ensures rest { OnOk result
+        (aif.new ≡ record aif.old { registers = aif.new.registers; cells = aif.new.cells }) }
 {
     let place = place_in(aif.vars.as_slice(), var);
     let count = elements_in(aif.vars.as_slice(), var);
@@ -59,7 +67,8 @@ fn value_parts(alloc: Global, storage: Storage) -> Result<Vec<Part>, NoMemory>
 // What the registers of an element keep, in order.
 pub(crate) fn parts_in(alloc: Global, vars: &[Var], var: u32) -> Result<Vec<Part>, NoMemory>
     requires { var < length vars.now }
-    ensures { IfOk result (λ ps. (v : AnyVar) → slice_get vars.now var ≡ Some v → ps.items ≡ parts_of v) }
+    ensures { IfOk result
+        (λ ps. (v : AnyVar) → slice_get vars.now var ≡ Some v → ps.items ≡ parts_of v) }
 {
     let var = &vars[var as usize];
     let mut parts = value_parts(alloc, var.decl.storage)?;
@@ -96,7 +105,8 @@ fn arms(
     part: Part,
     copies: &[Entered],
 ) -> Result<Vec<(Tree, Tree)>, NoMemory>
-    ensures { IfOk result (λ v. map (λ a. (tree a.0, tree a.1)) v.items ≡ map (arm_of element part) copies.now) }
+    ensures { IfOk result
+        (λ v. map (λ a. (tree a.0, tree a.1)) v.items ≡ map (arm_of element part) copies.now) }
 {
     let mut arms = Vec::new(alloc);
     for copy in copies {
@@ -116,7 +126,9 @@ fn take(
     element: usize,
     part: Part,
 ) -> Result<Ref, NoMemory>
-    ensures { IfOk result (λ r. record { ref = r; cells = all_defined cells.new } ≡ taken place copies.now depth.now element part (all_defined cells.old)) }
+    ensures { IfOk result
+        (λ r. record { ref = r; cells = all_defined cells.new }
+        ≡ taken place copies.now depth.now element part (all_defined cells.old)) }
 {
     let kept = ref_in(element, part, depth);
     if copies.is_empty() {
@@ -159,7 +171,10 @@ fn carry_element(
     requires few { length registers.old < 2 ^ 32 }
     requires room { first + length parts.now ≤ length registers.old }
     ensures count { OnOk result (length registers.new ≡ length registers.old) }
-    ensures carried { OnOk result (stores registers.new cells.new ≡ carried_parts place copies.now depth.now element parts.now first (stores registers.old cells.old)) }
+    ensures carried { OnOk result
+        (stores registers.new cells.new
+        ≡ carried_parts place copies.now depth.now element parts.now first
+        (stores registers.old cells.old)) }
 {
     let mut register = first;
     for part in parts {
@@ -184,7 +199,10 @@ fn carry_all(
     requires few { length registers.old < 2 ^ 32 }
     requires room { first + count * length parts.now ≤ length registers.old }
     requires count { count < 2 ^ 64 }
-    ensures { OnOk result (stores registers.new cells.new ≡ carried_from place copies.now depth.now parts.now 0 count first (stores registers.old cells.old)) }
+    ensures { OnOk result
+        (stores registers.new cells.new
+        ≡ carried_from place copies.now depth.now parts.now 0 count first
+        (stores registers.old cells.old)) }
 {
     let mut register = first as usize;
     for element in 0..count as usize {

@@ -1,3 +1,5 @@
+//! What a copy was closed with, and under what it was entered.
+
 use aif_cells::Ref;
 use sqlite_items::Items;
 
@@ -9,7 +11,8 @@ pub struct ClosedRefs {
     pub pending: Items<Ref>,
 }
 
-/// A copy that may have been entered in this step, and is still active behind it where `enter` isn't 0.
+/// A copy that may have been entered in this step, and is still active behind it where `enter`
+/// isn't 0.
 #[derive(Debug, Drop)]
 pub struct Entered {
     pub enter: Ref,

@@ -1,3 +1,5 @@
+//! New copies of a variable, with reserved value cells.
+
 ghost use Rattle.std.specs.Prelude.{◌≡◌, ◌+◌, ◌<◌, ◌^◌, ◌++◌, [], ◌∷◌, length, map, replicate, slice_get, IfOk, OnOk};
 ghost use Rattle.quartz_tree.specs.declared.declare.Var.{Var as AnyVar};
 ghost use Rattle.aif_cells.specs.Aif.{elements_of};
@@ -9,8 +11,8 @@ use quartz_tree::{NoMemory, Place, Var};
 use sqlite_items::Items;
 use std::alloc::Global;
 
-/// Makes a copy of a variable: its number among the copies of that variable, and a reserved value cell for each element,
-/// which gets its tree when the copy is closed.
+/// Makes a copy of a variable: its number among the copies of that variable, and a reserved value
+/// cell for each element, which gets its tree when the copy is closed.
 ///
 /// After an error the `Aif` is to be dropped.
 pub fn enter_copy(
@@ -21,7 +23,9 @@ pub fn enter_copy(
 ) -> Result<(u32, Items<u32>), NoMemory>
     requires var { var < length aif.old.vars }
     requires few { length aif.old.made < 2 ^ 32 }
-    ensures { IfOk result (λ r. (v : AnyVar) → slice_get aif.old.vars var ≡ Some v → IsEntered aif.old var stored v r.0 r.1 aif.new) }
+    ensures { IfOk result
+        (λ r. (v : AnyVar) → slice_get aif.old.vars var ≡ Some v
+        → IsEntered aif.old var stored v r.0 r.1 aif.new) }
 {
     let copy = count_copies(aif.made.as_slice(), var);
     let place = place_in(aif.vars.as_slice(), var);
@@ -60,7 +64,8 @@ fn count_copies(made: &[Made], var: u32) -> u32
 // A reserved cell behind all others, by its number.
 fn reserve_one(cells: &mut Items<Cell>, place: Place) -> Result<u32, NoMemory>
     ensures number { IfOk result (λ n. n ≡ length cells.old) }
-    ensures cells { OnOk result (all_defined cells.new ≡ all_defined cells.old ++ reserved place ∷ []) }
+    ensures cells { OnOk result
+        (all_defined cells.new ≡ all_defined cells.old ++ reserved place ∷ []) }
 {
     let Ref::Cell(cell) = add_cell(cells, Tree::Value(Ref::Lit(0)), place)? else {
         return Err(NoMemory);
@@ -76,7 +81,8 @@ pub fn reserve(
     count: u128,
 ) -> Result<Items<u32>, NoMemory>
     ensures numbers { IfOk result (λ ns. ns ≡ numbers_from (length cells.old) count) }
-    ensures cells { OnOk result (all_defined cells.new ≡ all_defined cells.old ++ replicate count (reserved place)) }
+    ensures cells { OnOk result
+        (all_defined cells.new ≡ all_defined cells.old ++ replicate count (reserved place)) }
 {
     let mut numbers = Items::new(alloc);
     for _element in 0..count {

@@ -1,5 +1,5 @@
-//! Copies of a local variable, one for each time that its scope can be entered in a step, and the store that its registers
-//! carry into the next step.
+//! Copies of a local variable, one for each time that its scope can be entered in a step, and the
+//! store that its registers carry into the next step.
 #![tactic(auto)]
 
 mod carrying;
@@ -11,6 +11,3 @@ pub use carrying::carry;
 pub use copy::{ClosedRefs, Entered};
 pub use entering::{cell_refs, enter_copy, reserve};
 pub use law::carrying_keeps_one_store;
-
-#[cfg(test)]
-mod tests;

@@ -21,7 +21,7 @@ fn copied_store(alloc: Global, store: &Option<Vec<Kept>>) -> Result<Option<Vec<K
 
 /// The copy of a form.
 #[cycle(copy)]
-pub(crate) fn copied(alloc: Global, form: &Form) -> Result<Form, NoMemory>
+pub(crate) fn copy_form(alloc: Global, form: &Form) -> Result<Form, NoMemory>
     ensures { IfOk result (λ f. term f ≡ term form.now) }
 {
     match form {
@@ -44,13 +44,13 @@ pub(crate) fn copied(alloc: Global, form: &Form) -> Result<Form, NoMemory>
         }),
         Form::If { cond, yes, no } => Ok(Form::If {
             cond: cond.copied(alloc)?,
-            yes: Box::new(alloc, copied(alloc, yes)?)?,
-            no: Box::new(alloc, copied(alloc, no)?)?,
+            yes: Box::new(alloc, copy_form(alloc, yes)?)?,
+            no: Box::new(alloc, copy_form(alloc, no)?)?,
         }),
         Form::Seq(parts) => Ok(Form::Seq(copied_all(alloc, parts)?)),
         Form::Par(parts) => Ok(Form::Par(copied_all(alloc, parts)?)),
         Form::Loop { body, cond } => Ok(Form::Loop {
-            body: Box::new(alloc, copied(alloc, body)?)?,
+            body: Box::new(alloc, copy_form(alloc, body)?)?,
             cond: cond.copied(alloc)?,
         }),
         Form::Guard {
@@ -63,13 +63,13 @@ pub(crate) fn copied(alloc: Global, form: &Form) -> Result<Form, NoMemory>
             abort: *abort,
             weak: *weak,
             immediate: *immediate,
-            body: Box::new(alloc, copied(alloc, body)?)?,
+            body: Box::new(alloc, copy_form(alloc, body)?)?,
             cond: cond.copied(alloc)?,
         }),
         Form::Scope { var, store, body } => Ok(Form::Scope {
             var: *var,
             store: copied_store(alloc, store)?,
-            body: Box::new(alloc, copied(alloc, body)?)?,
+            body: Box::new(alloc, copy_form(alloc, body)?)?,
         }),
     }
 }
@@ -81,7 +81,7 @@ pub(crate) fn copied_all(alloc: Global, parts: &[Form]) -> Result<Vec<Form>, NoM
 {
     let mut all = Vec::new(alloc);
     for part in parts {
-        all.push(copied(alloc, part)?)?;
+        all.push(copy_form(alloc, part)?)?;
     }
     Ok(all)
 }
@@ -92,6 +92,6 @@ pub(crate) fn held_form(alloc: Global, held: Option<Form>, form: &Form) -> Resul
 {
     match held {
         Some(held) => Ok(held),
-        None => copied(alloc, form),
+        None => copy_form(alloc, form),
     }
 }

@@ -34,7 +34,8 @@ pub(crate) struct Scope<'a> {
     pub body: &'a Form,
 }
 
-/// A scope that was entered: the store from which it resolves its variable, and the values that are read of it.
+/// A scope that was entered: the store from which it resolves its variable, and the values that are
+/// read of it.
 #[derive(Debug, Drop)]
 pub(crate) struct Entry {
     pub store: Vec<Kept>,
@@ -61,11 +62,15 @@ pub(crate) fn enter(
 ) -> Result<Entry, WalkFault>
     requires sound { AreSound vars.now }
     requires within { scope.var < length vars.now }
-    requires store { fits_store vars.now scope.var (option_map (λ v. v.items) scope.store.now) ≡ true }
-    ensures store { IfOk result (λ e. e.store.items ≡ store_of vars.now scope.entry.var (option_map (λ v. v.items) scope.entry.store.now)) }
-    ensures read { IfOk result (λ e. e.read.items ≡ read_as vars.now scope.entry.var (take (length e.store.items) given.now)) }
+    requires store { fits_store vars.now scope.var (option_map (λ v.
+        v.items) scope.store.now) ≡ true }
+    ensures store { IfOk result (λ e. e.store.items
+        ≡ store_of vars.now scope.entry.var (option_map (λ v. v.items) scope.entry.store.now)) }
+    ensures read { IfOk result (λ e. e.read.items
+        ≡ read_as vars.now scope.entry.var (take (length e.store.items) given.now)) }
     ensures enough { IfOk result (λ e. length e.store.items ≤ length given.now) }
-    ensures missing { IsErrOf result WalkFault.Missing → nat_le (taken_by vars.now scope.entry.var (option_map (λ v. v.items) scope.entry.store.now)) (length given.now) ≡ false }
+    ensures missing { IsErrOf result WalkFault.Missing → nat_le (taken_by vars.now scope.entry.var
+        (option_map (λ v. v.items) scope.entry.store.now)) (length given.now) ≡ false }
 {
     let store = store_in(alloc, vars, scope.var, scope.store)?;
     if given.len() < store.len() {
@@ -111,7 +116,8 @@ fn residual_of(
     ended: bool,
     residual: Form,
 ) -> Result<Form, NoMemory>
-    ensures { IfOk result (λ f. term f ≡ unless_ended ended (scope_term var (Some store.now) (term residual))) }
+    ensures { IfOk result (λ f.
+        term f ≡ unless_ended ended (scope_term var (Some store.now) (term residual))) }
 {
     if ended {
         return Ok(Form::Nothing);
@@ -130,7 +136,11 @@ fn held_of(
     store: Vec<Kept>,
     held: Option<Form>,
 ) -> Result<Option<Form>, NoMemory>
-    ensures { IfOk result (λ h. held_or (option_map term h) (scope_term scope.entry.var (option_map (λ v. v.items) scope.entry.store.now) (term scope.entry.body.now)) ≡ held_scope scope.entry.var (option_map (λ v. v.items) scope.entry.store.now) (term scope.entry.body.now) store.items (held_or (option_map term held) (term scope.entry.body.now))) }
+    ensures { IfOk result (λ h. held_or (option_map term h) (scope_term scope.entry.var
+        (option_map (λ v. v.items) scope.entry.store.now) (term scope.entry.body.now))
+        ≡ held_scope scope.entry.var (option_map (λ v.
+        v.items) scope.entry.store.now) (term scope.entry.body.now) store.items
+        (held_or (option_map term held) (term scope.entry.body.now))) }
 {
     match scope.store {
         None => Ok(None),
@@ -151,7 +161,8 @@ fn with_conflicts(
     values: &[i64],
 ) -> Result<Vec<Fault>, NoMemory>
     requires { length values.now < 2 ^ 32 }
-    ensures { IfOk result (λ v. v.items ≡ faults.items ++ store_conflicts (declared_at vars.now var) var acts.now 0 values.now) }
+    ensures { IfOk result (λ v. v.items ≡ faults.items
+        ++ store_conflicts (declared_at vars.now var) var acts.now 0 values.now) }
 {
     add_conflicts(&mut faults, place_in(vars, var), var, acts, values)?;
     Ok(faults)
@@ -170,7 +181,9 @@ fn with_meetings(
 ) -> Result<Vec<Meeting>, NoMemory>
     requires few { length store.now < 2 ^ 32 }
     requires same { length given.now ≡ length store.now }
-    ensures { IfOk result (λ v. map met_of v.items ≡ meetings var given.now (values_of (resolved_store (storage_of vars.now var) var acts.now 0 store.now)) ++ map met_of met.items) }
+    ensures { IfOk result (λ v. map met_of v.items ≡ meetings var given.now
+        (values_of (resolved_store (storage_of vars.now var) var acts.now 0 store.now))
+        ++ map met_of met.items) }
 {
     let wanted = wanted_values(alloc, storage_in(vars, var), var, acts, store)?;
     let mut all = meet(alloc, var, given, &wanted)?;
@@ -179,7 +192,7 @@ fn with_meetings(
 }
 
 /// What a scope makes of what its body did.
-pub(crate) fn left(
+pub(crate) fn leave(
     alloc: Global,
     scope: Scope,
     vars: &[Var],
@@ -189,10 +202,14 @@ pub(crate) fn left(
 ) -> Result<Found, NoMemory>
     requires few { length entry.store.items < 2 ^ 32 }
     requires same { length given.now ≡ length entry.store.items }
-    requires store { entry.store.items ≡ store_of vars.now scope.var (option_map (λ v. v.items) scope.store.now) }
+    requires store { entry.store.items ≡ store_of vars.now scope.var
+        (option_map (λ v. v.items) scope.store.now) }
     requires read { entry.read.items ≡ read_as vars.now scope.var given.now }
     requires fits { length given.now + found.used < 2 ^ 64 }
-    ensures reaction { IfOk result (λ f. reaction_of (scope_term scope.entry.var (option_map (λ v. v.items) scope.entry.store.now) (term scope.entry.body.now)) f ≡ entered vars.now scope.entry.var (option_map (λ v. v.items) scope.entry.store.now) (term scope.entry.body.now) given.now (reaction_of (term scope.entry.body.now) found)) }
+    ensures reaction { IfOk result (λ f. reaction_of (scope_term scope.entry.var
+        (option_map (λ v. v.items) scope.entry.store.now) (term scope.entry.body.now)) f
+        ≡ entered vars.now scope.entry.var (option_map (λ v. v.items) scope.entry.store.now)
+        (term scope.entry.body.now) given.now (reaction_of (term scope.entry.body.now) found)) }
     ensures used { IfOk result (λ f. f.used ≡ length given.now + found.used) }
 {
     let var = scope.var;

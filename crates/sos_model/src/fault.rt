@@ -1,3 +1,5 @@
+//! Why a term has no reaction, and why a walk finds nothing.
+
 ghost use Rattle.std.specs.Prelude.{◌≡◌};
 ghost use Rattle.sos_model.specs.declared.fault.ReactFault.TheVariants.{NoMemory as no_memory};
 ghost use Rattle.sos_model.specs.declared.fault.WalkFault.TheVariants.{NoMemory as walk_no_memory};

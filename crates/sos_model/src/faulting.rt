@@ -52,7 +52,8 @@ pub(crate) fn add_index_fault(
     index: i64,
     place: Place,
 ) -> Result<(), NoMemory>
-    ensures { IfOk result (λ _. all.new.items ≡ all.old.items ++ index_faults vars.now var index place) }
+    ensures { IfOk result (λ _. all.new.items ≡ all.old.items
+        ++ index_faults vars.now var index place) }
 {
     let is_out = !names_element(vars, var, index);
     add_fault(all, is_out, Kind::Index, place)
@@ -90,7 +91,8 @@ fn collect_faults(
     requires sound { AreSound vars.now }
     requires typed { HasTypedParts vars.now (tree e.now) }
     requires fits { Fits vars.now env.now.values }
-    ensures { IfOk result (λ _. all.new.items ≡ all.old.items ++ faults vars.now env.now.values (tree e.now)) }
+    ensures { IfOk result (λ _. all.new.items ≡ all.old.items
+        ++ faults vars.now env.now.values (tree e.now)) }
 {
     match e {
         Expr::Truth { .. } | Expr::Number { .. } | Expr::Bits { .. } | Expr::Named { .. } => Ok(()),
@@ -135,7 +137,8 @@ pub(crate) fn add_faults(
     requires sound { AreSound vars.now }
     requires typed { IsTyped vars.now (tree e.now) }
     requires fits { Fits vars.now env.now.values }
-    ensures { IfOk result (λ _. all.new.items ≡ all.old.items ++ faults vars.now env.now.values (tree e.now)) }
+    ensures { IfOk result (λ _. all.new.items ≡ all.old.items
+        ++ faults vars.now env.now.values (tree e.now)) }
 {
     collect_faults(all, e, vars, env)
 }

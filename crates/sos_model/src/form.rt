@@ -1,7 +1,10 @@
+//! Terms without their variables.
+
 use quartz_expr::Kept;
 use quartz_tree::{Expr, Place};
 
-/// A term without its variables: what is left to do, with the stores of the scopes that were entered.
+/// A term without its variables: what is left to do, with the stores of the scopes that were
+/// entered.
 ///
 /// The places of a write are those of its first token and of its target's name.
 #[derive(Debug, Drop)]

@@ -1,9 +1,11 @@
+//! What a walk finds.
+
 use crate::form::Form;
 use quartz_expr::Act;
 use quartz_tree::Fault;
 
-/// An element of a scope that was met: the scope's variable, the value that was given to the element,
-/// and the one that the scope's store and the body's writes resolve to.
+/// An element of a scope that was met: the scope's variable, the value that was given to the
+/// element, and the one that the scope's store and the body's writes resolve to.
 #[derive(Clone, Copy, Debug, PartialEq, Eq)]
 pub(crate) struct Meeting {
     pub var: u32,
@@ -11,8 +13,8 @@ pub(crate) struct Meeting {
     pub wanted: i64,
 }
 
-/// What a walk through a form finds of its reaction, and how many values for scopes it used. Where `held`
-/// is None the form itself is held.
+/// What a walk through a form finds of its reaction, and how many values for scopes it used. Where
+/// `held` is None the form itself is held.
 #[derive(Debug, Drop)]
 pub(crate) struct Found {
     pub residual: Form,

@@ -15,7 +15,8 @@ use quartz_expr::Act;
 use quartz_tree::{Fault, NoMemory};
 use std::alloc::Global;
 
-/// What was passed of a sequence: parts that ended. The sequence is held by what its first part holds.
+/// What was passed of a sequence: parts that ended. The sequence is held by what its first part
+/// holds.
 #[derive(Debug, Drop)]
 pub(crate) struct Passed {
     pub held: Option<Form>,
@@ -26,7 +27,7 @@ pub(crate) struct Passed {
 }
 
 // One list behind another.
-fn joined<T: Drop>(mut front: Vec<T>, mut back: Vec<T>) -> Result<Vec<T>, NoMemory>
+fn join<T: Drop>(mut front: Vec<T>, mut back: Vec<T>) -> Result<Vec<T>, NoMemory>
     ensures { IfOk result (λ v. v.items ≡ front.items ++ back.items) }
 {
     front.append(&mut back)?;
@@ -66,7 +67,8 @@ fn residual_before(alloc: Global, first: Form, rest: &[Form]) -> Result<Form, No
     }
 }
 
-// What a sequence is held by: what its first part is held by, if one was passed, and else this part.
+// What a sequence is held by: what its first part is held by, if one was passed, and else this
+// part.
 fn held_by(
     alloc: Global,
     held: Option<Form>,
@@ -74,7 +76,8 @@ fn held_by(
     first_held: Option<Form>,
     rest: &[Form],
 ) -> Result<Form, NoMemory>
-    ensures { IfOk result (λ f. term f ≡ held_or (option_map term held) (seq (part (held_or (option_map term first_held) (term first.now)) (terms (map term rest.now))))) }
+    ensures { IfOk result (λ f. term f ≡ held_or (option_map term held) (seq (part
+        (held_or (option_map term first_held) (term first.now)) (terms (map term rest.now))))) }
 {
     match held {
         Some(held) => Ok(held),
@@ -141,14 +144,15 @@ impl Passed {
         rest: &[Form],
     ) -> Result<Passed, NoMemory>
         requires { self.used + found.used < 2 ^ 64 }
-        ensures passed { IfOk result (λ b. (p : Reaction) → behind_parts b p ≡ behind_parts self (goes_on (terms (map term rest.now)) (reaction_of (term first.now) found) p)) }
+        ensures passed { IfOk result (λ b. (p : Reaction) → behind_parts b p ≡ behind_parts self
+            (goes_on (terms (map term rest.now)) (reaction_of (term first.now) found) p)) }
         ensures used { IfOk result (λ b. b.used ≡ self.used + found.used) }
     {
         Ok(Passed {
             held: Some(held_by(alloc, self.held, first, found.held, rest)?),
-            acts: joined(self.acts, found.acts)?,
-            faults: joined(self.faults, found.faults)?,
-            met: joined(self.met, found.met)?,
+            acts: join(self.acts, found.acts)?,
+            faults: join(self.faults, found.faults)?,
+            met: join(self.met, found.met)?,
             used: self.used + found.used,
         })
     }
@@ -163,15 +167,16 @@ impl Passed {
         rest: &[Form],
     ) -> Result<Found, NoMemory>
         requires { self.used + found.used < 2 ^ 64 }
-        ensures reaction { IfOk result (λ f. (t : Term) → reaction_of t f ≡ behind_parts self (stopped (terms (map term rest.now)) (reaction_of (term first.now) found))) }
+        ensures reaction { IfOk result (λ f. (t : Term) → reaction_of t f ≡ behind_parts self
+            (stopped (terms (map term rest.now)) (reaction_of (term first.now) found))) }
         ensures used { IfOk result (λ f. f.used ≡ self.used + found.used) }
     {
         Ok(Found {
             residual: residual_before(alloc, found.residual, rest)?,
             held: Some(held_by(alloc, self.held, first, found.held, rest)?),
-            acts: joined(self.acts, found.acts)?,
-            faults: joined(self.faults, found.faults)?,
-            met: joined(self.met, found.met)?,
+            acts: join(self.acts, found.acts)?,
+            faults: join(self.faults, found.faults)?,
+            met: join(self.met, found.met)?,
             ended: found.ended,
             used: self.used + found.used,
         })
@@ -179,7 +184,8 @@ impl Passed {
 
     /// All parts were passed.
     pub fn end(self, alloc: Global) -> Found
-        ensures reaction { (t : Term) → reaction_of t result ≡ behind_parts self (ends [] [] (seq none)) }
+        ensures reaction { (t : Term) →
+            reaction_of t result ≡ behind_parts self (ends [] [] (seq none)) }
         ensures used { result.used ≡ self.used }
     {
         Found {
@@ -226,15 +232,16 @@ impl Beside {
     /// One part more reacted.
     pub fn with(self, alloc: Global, form: &Form, found: Found) -> Result<Beside, NoMemory>
         requires { self.used + found.used < 2 ^ 64 }
-        ensures passed { IfOk result (λ b. (p : Reactions) → behind_all b p ≡ behind_all self (beside (reaction_of (term form.now) found) p)) }
+        ensures passed { IfOk result (λ b. (p : Reactions) →
+            behind_all b p ≡ behind_all self (beside (reaction_of (term form.now) found) p)) }
         ensures used { IfOk result (λ b. b.used ≡ self.used + found.used) }
     {
         let residuals = with_last(self.residuals, found.residual)?;
         let held = held_form(alloc, found.held, form)?;
         let helds = with_last(self.helds, held)?;
-        let acts = joined(self.acts, found.acts)?;
-        let faults = joined(self.faults, found.faults)?;
-        let met = joined(self.met, found.met)?;
+        let acts = join(self.acts, found.acts)?;
+        let faults = join(self.faults, found.faults)?;
+        let met = join(self.met, found.met)?;
         let ended = both(self.ended, found.ended);
         Ok(Beside {
             residuals,
@@ -249,7 +256,14 @@ impl Beside {
 
     /// All parts reacted.
     pub fn finish(self) -> Found
-        ensures reaction { (t : Term) → reaction_of t result ≡ together (behind_all self (record { residuals = none; helds = none; acts = []; faults = []; met = []; ended = true })) }
+        ensures reaction { (t : Term) → reaction_of t result ≡ together (behind_all self (record {
+          residuals = none;
+          helds = none;
+          acts = [];
+          faults = [];
+          met = [];
+          ended = true;
+        })) }
         ensures used { result.used ≡ self.used }
     {
         Found {

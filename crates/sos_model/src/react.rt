@@ -1,3 +1,5 @@
+//! The reaction of a term with given values for its scopes.
+
 ghost use Rattle.std.specs.Prelude.{◌≡◌, ◌++◌, ℤ, List, IfOk, IfErr, IsErrOf, None, map, option_map, true};
 ghost use Rattle.quartz_expr.specs.React as relation;
 ghost use Rattle.quartz_expr.specs.React.{Reacts, givens};
@@ -57,9 +59,11 @@ fn first_difference(met: &[Meeting]) -> Option<Meeting>
 
 fn reaction_of(alloc: Global, before: &Term, found: Found) -> Result<Reaction, NoMemory>
     requires residual { is_sound before.now.vars (term found.residual) ≡ true }
-    requires held { is_sound before.now.vars (held_or (option_map term found.held) (term before.now.form)) ≡ true }
+    requires held { is_sound before.now.vars
+        (held_or (option_map term found.held) (term before.now.form)) ≡ true }
     ensures residual { IfOk result (λ r. r.residual.form ≡ found.residual) }
-    ensures held { IfOk result (λ r. term r.held.form ≡ held_or (option_map term found.held) (term before.now.form)) }
+    ensures held { IfOk result (λ r. term r.held.form
+        ≡ held_or (option_map term found.held) (term before.now.form)) }
     ensures residual_vars { IfOk result (λ r. r.residual.vars ≡ before.now.vars) }
     ensures held_vars { IfOk result (λ r. r.held.vars ≡ before.now.vars) }
     ensures writes { IfOk result (λ r. r.writes ≡ found.acts) }
@@ -76,8 +80,8 @@ fn reaction_of(alloc: Global, before: &Term, found: Found) -> Result<Reaction, N
     })
 }
 
-/// The reaction of a term under an environment, with these values for the elements of its scopes, in the
-/// order in which they are met. Values behind those that are needed have no effect.
+/// The reaction of a term under an environment, with these values for the elements of its scopes,
+/// in the order in which they are met. Values behind those that are needed have no effect.
 #[tactic(auto, using(crate::proofs::AnswerLemmas::vars_by_test, crate::proofs::AnswerLemmas::residual_of, crate::proofs::AnswerLemmas::held_of, crate::proofs::AnswerLemmas::is_reaction, crate::proofs::AnswerLemmas::is_unresolved, crate::proofs::AnswerLemmas::never_missing, crate::proofs::AnswerLemmas::never_unresolved, crate::proofs::AnswerLemmas::never_short, crate::proofs::AnswerLemmas::short_meets_none, crate::proofs::AnswerLemmas::resolved_meets_none))]
 pub fn react_with(
     alloc: Global,
@@ -86,14 +90,22 @@ pub fn react_with(
     scopes: &[i64],
 ) -> Result<Reaction, ReactFault>
     requires { Fits before.now.vars env.now.values }
-    ensures reaction { IfOk result (λ r. IsReaction before.now.vars env.now.values (term before.now.form) scopes.now r) }
+    ensures reaction { IfOk result (λ r.
+        IsReaction before.now.vars env.now.values (term before.now.form) scopes.now r) }
     ensures residual_vars { IfOk result (λ r. r.residual.vars ≡ before.now.vars) }
     ensures held_vars { IfOk result (λ r. r.held.vars ≡ before.now.vars) }
-    ensures short { walk_of before.now.vars env.now.values (term before.now.form) scopes.now ≡ None → FailsWith result ReactFault.Missing }
-    ensures missing { IsErrOf result ReactFault.Missing → walk_of before.now.vars env.now.values (term before.now.form) scopes.now ≡ None }
-    ensures differs { (wanted given : ℤ) → IsErrOf result (ReactFault.Differs wanted given) → IsUnresolved before.now.vars env.now.values (term before.now.form) scopes.now wanted given }
-    ensures unresolved { (wanted given : ℤ) → IsUnresolved before.now.vars env.now.values (term before.now.form) scopes.now wanted given → FailsWith result (ReactFault.Differs wanted given) }
-    ensures complete { (r : relation.Reaction) (rest : List ℤ) → Reacts before.now.vars env.now.values (term before.now.form) r → givens r.met ++ rest ≡ scopes.now → IfErr result (λ e. e ≡ no_memory) }
+    ensures short { walk_of before.now.vars env.now.values (term before.now.form) scopes.now
+        ≡ None → FailsWith result ReactFault.Missing }
+    ensures missing { IsErrOf result ReactFault.Missing →
+        walk_of before.now.vars env.now.values (term before.now.form) scopes.now ≡ None }
+    ensures differs { (wanted given : ℤ) → IsErrOf result (ReactFault.Differs wanted given) →
+        IsUnresolved before.now.vars env.now.values (term before.now.form) scopes.now wanted given }
+    ensures unresolved { (wanted given : ℤ) →
+        IsUnresolved before.now.vars env.now.values (term before.now.form) scopes.now wanted given →
+        FailsWith result (ReactFault.Differs wanted given) }
+    ensures complete { (r : relation.Reaction) (rest : List ℤ) →
+        Reacts before.now.vars env.now.values (term before.now.form) r →
+        givens r.met ++ rest ≡ scopes.now → IfErr result (λ e. e ≡ no_memory) }
 {
     let mut own = copied_env(alloc, env)?;
     let found = match walk(alloc, &before.form, before.vars(), &mut own, scopes) {

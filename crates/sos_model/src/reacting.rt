@@ -15,7 +15,7 @@ ghost use Rattle.sos_model.specs.Found.{held_or, reaction_of};
 ghost use Rattle.sos_model.specs.Sound.{IsTypedIndex};
 ghost use Rattle.sos_model.specs.Walk.{chosen as chosen_walk, delayed_guard, guarded as guarded_walk, looped as looped_walk, stops_body, strong_guard, tested_guard, weak_guard};
 
-use crate::copying::{copied, held_form};
+use crate::copying::{copy_form, held_form};
 use crate::faulting::{add_faults, is_false};
 use crate::form::Form;
 use crate::found::Found;
@@ -26,8 +26,9 @@ use quartz_tree::{Copied, Expr, Fault, NoMemory, Var};
 use std::alloc::Global;
 
 // It ends at once.
-fn ending(alloc: Global, held: Option<Form>, acts: Vec<Act>, faults: Vec<Fault>) -> Found
-    ensures reaction { (t : Term) → reaction_of t result ≡ ends acts.items faults.items (held_or (option_map term held) t) }
+fn end_at_once(alloc: Global, held: Option<Form>, acts: Vec<Act>, faults: Vec<Fault>) -> Found
+    ensures reaction { (t : Term) →
+        reaction_of t result ≡ ends acts.items faults.items (held_or (option_map term held) t) }
     ensures used { result.used ≡ 0 }
 {
     Found {
@@ -42,8 +43,16 @@ fn ending(alloc: Global, held: Option<Form>, acts: Vec<Act>, faults: Vec<Fault>)
 }
 
 // It does nothing and stays.
-fn staying(alloc: Global, residual: Form, held: Option<Form>, faults: Vec<Fault>) -> Found
-    ensures reaction { (t : Term) → reaction_of t result ≡ record { residual = term residual; held = held_or (option_map term held) t; acts = []; faults = faults.items; met = []; ended = false } }
+fn stay(alloc: Global, residual: Form, held: Option<Form>, faults: Vec<Fault>) -> Found
+    ensures reaction { (t : Term) → reaction_of t result
+        ≡ record {
+          residual = term residual;
+          held = held_or (option_map term held) t;
+          acts = [];
+          faults = faults.items;
+          met = [];
+          ended = false;
+        } }
     ensures used { result.used ≡ 0 }
 {
     Found {
@@ -62,15 +71,22 @@ pub(crate) fn nothing(alloc: Global) -> Found
     ensures reaction { reaction_of nothing_term result ≡ ends [] [] nothing_term }
     ensures used { result.used ≡ 0 }
 {
-    ending(alloc, None, Vec::new(alloc), Vec::new(alloc))
+    end_at_once(alloc, None, Vec::new(alloc), Vec::new(alloc))
 }
 
 /// A pause.
 pub(crate) fn pause(alloc: Global) -> Found
-    ensures reaction { reaction_of pause_term result ≡ record { residual = nothing_term; held = pause_term; acts = []; faults = []; met = []; ended = false } }
+    ensures reaction { reaction_of pause_term result ≡ record {
+      residual = nothing_term;
+      held = pause_term;
+      acts = [];
+      faults = [];
+      met = [];
+      ended = false;
+    } }
     ensures used { result.used ≡ 0 }
 {
-    staying(alloc, Form::Nothing, None, Vec::new(alloc))
+    stay(alloc, Form::Nothing, None, Vec::new(alloc))
 }
 
 fn acts_of(alloc: Global, write: Assignment, vars: &[Var], env: &Env) -> Result<Vec<Act>, NoMemory>
@@ -78,7 +94,8 @@ fn acts_of(alloc: Global, write: Assignment, vars: &[Var], env: &Env) -> Result<
     requires index { IsTypedIndex vars.now (option_map tree write.index.now) }
     requires value { IsTyped vars.now (tree write.value.now) }
     requires fits { Fits vars.now env.now.values }
-    ensures { IfOk result (λ v. v.items ≡ write_acts vars.now env.now.values write.entry.var (option_map tree write.entry.index.now) (tree write.entry.value.now) write.entry.delayed) }
+    ensures { IfOk result (λ v. v.items ≡ write_acts vars.now env.now.values write.entry.var
+        (option_map tree write.entry.index.now) (tree write.entry.value.now) write.entry.delayed) }
 {
     let mut acts = Vec::new(alloc);
     if let Some(act) = act_of(write, vars, env) {
@@ -88,7 +105,7 @@ fn acts_of(alloc: Global, write: Assignment, vars: &[Var], env: &Env) -> Result<
 }
 
 /// A write.
-pub(crate) fn written(
+pub(crate) fn react_write(
     alloc: Global,
     write: Assignment,
     vars: &[Var],
@@ -98,13 +115,22 @@ pub(crate) fn written(
     requires index { IsTypedIndex vars.now (option_map tree write.index.now) }
     requires value { IsTyped vars.now (tree write.value.now) }
     requires fits { Fits vars.now env.now.values }
-    ensures reaction { IfOk result (λ f. reaction_of (write_term write.entry.var (option_map tree write.entry.index.now) (tree write.entry.value.now) write.entry.delayed write.entry.place write.entry.target_place) f ≡ ends (write_acts vars.now env.now.values write.entry.var (option_map tree write.entry.index.now) (tree write.entry.value.now) write.entry.delayed) (write_faults vars.now env.now.values write.entry.var (option_map tree write.entry.index.now) (tree write.entry.value.now) write.entry.place write.entry.target_place) (write_term write.entry.var (option_map tree write.entry.index.now) (tree write.entry.value.now) write.entry.delayed write.entry.place write.entry.target_place)) }
+    ensures reaction { IfOk result (λ f.
+        reaction_of (write_term write.entry.var (option_map tree write.entry.index.now)
+        (tree write.entry.value.now) write.entry.delayed write.entry.place write.entry.target_place)
+        f ≡ ends (write_acts vars.now env.now.values write.entry.var
+        (option_map tree write.entry.index.now) (tree write.entry.value.now) write.entry.delayed)
+        (write_faults vars.now env.now.values write.entry.var
+        (option_map tree write.entry.index.now)
+        (tree write.entry.value.now) write.entry.place write.entry.target_place)
+        (write_term write.entry.var (option_map tree write.entry.index.now) (tree
+        write.entry.value.now) write.entry.delayed write.entry.place write.entry.target_place)) }
     ensures used { IfOk result (λ f. f.used ≡ 0) }
 {
     let mut faults = Vec::new(alloc);
     add_write_faults(&mut faults, write, vars, env)?;
     let acts = acts_of(alloc, write, vars, env)?;
-    Ok(ending(alloc, None, acts, faults))
+    Ok(end_at_once(alloc, None, acts, faults))
 }
 
 // The faults of a condition come first.
@@ -118,7 +144,8 @@ fn after_condition(
     requires sound { AreSound vars.now }
     requires typed { IsTyped vars.now (tree cond.now) }
     requires fits { Fits vars.now env.now.values }
-    ensures reaction { IfOk result (λ f. (t : Term) → reaction_of t f ≡ after_faults (faults_of vars.now env.now.values (tree cond.now)) (reaction_of t found)) }
+    ensures reaction { IfOk result (λ f. (t : Term) → reaction_of t f
+        ≡ after_faults (faults_of vars.now env.now.values (tree cond.now)) (reaction_of t found)) }
     ensures used { IfOk result (λ f. f.used ≡ found.used) }
 {
     let mut faults = Vec::new(alloc);
@@ -137,7 +164,8 @@ fn after_condition(
 
 // It is held by the form itself.
 fn held_as_it_is(found: Found) -> Found
-    ensures reaction { (t u : Term) → reaction_of t result ≡ record (reaction_of u found) { held = t } }
+    ensures reaction { (t u : Term) →
+        reaction_of t result ≡ record (reaction_of u found) { held = t } }
     ensures used { result.used ≡ found.used }
 {
     Found {
@@ -152,7 +180,7 @@ fn held_as_it_is(found: Found) -> Found
 }
 
 /// What a choice makes of what its chosen side did.
-pub(crate) fn chosen(
+pub(crate) fn react_choice(
     alloc: Global,
     cond: &Expr<u32>,
     vars: &[Var],
@@ -162,7 +190,8 @@ pub(crate) fn chosen(
     requires sound { AreSound vars.now }
     requires typed { IsTyped vars.now (tree cond.now) }
     requires fits { Fits vars.now env.now.values }
-    ensures reaction { IfOk result (λ f. (t u : Term) → reaction_of t f ≡ chosen_walk (faults_of vars.now env.now.values (tree cond.now)) t (reaction_of u found)) }
+    ensures reaction { IfOk result (λ f. (t u : Term) → reaction_of t f
+        ≡ chosen_walk (faults_of vars.now env.now.values (tree cond.now)) t (reaction_of u found)) }
     ensures used { IfOk result (λ f. f.used ≡ found.used) }
 {
     let found = after_condition(alloc, cond, vars, env, found)?;
@@ -174,14 +203,15 @@ fn loop_form(alloc: Global, body: &Form, cond: &Expr<u32>) -> Result<Form, NoMem
     ensures { IfOk result (λ f. term f ≡ loop (term body.now) (tree cond.now)) }
 {
     Ok(Form::Loop {
-        body: Box::new(alloc, copied(alloc, body)?)?,
+        body: Box::new(alloc, copy_form(alloc, body)?)?,
         cond: cond.copied(alloc)?,
     })
 }
 
 // A loop once its body has ended: if the condition holds it starts again.
 fn next_round(alloc: Global, body: &Form, cond: &Expr<u32>) -> Result<Form, NoMemory>
-    ensures { IfOk result (λ f. term f ≡ choose (tree cond.now) (loop (term body.now) (tree cond.now)) nothing_term) }
+    ensures { IfOk result (λ f.
+        term f ≡ choose (tree cond.now) (loop (term body.now) (tree cond.now)) nothing_term) }
 {
     Ok(Form::If {
         cond: cond.copied(alloc)?,
@@ -202,13 +232,14 @@ fn pair(alloc: Global, first: Form, second: Form) -> Result<Form, NoMemory>
 }
 
 /// What a loop makes of what its body did.
-pub(crate) fn looped(
+pub(crate) fn react_loop(
     alloc: Global,
     body: &Form,
     cond: &Expr<u32>,
     found: Found,
 ) -> Result<Found, NoMemory>
-    ensures reaction { IfOk result (λ f. reaction_of (loop (term body.now) (tree cond.now)) f ≡ looped_walk (term body.now) (tree cond.now) (reaction_of (term body.now) found)) }
+    ensures reaction { IfOk result (λ f. reaction_of (loop (term body.now) (tree cond.now)) f
+        ≡ looped_walk (term body.now) (tree cond.now) (reaction_of (term body.now) found)) }
     ensures used { IfOk result (λ f. f.used ≡ found.used) }
 {
     let round = next_round(alloc, body, cond)?;
@@ -238,14 +269,16 @@ pub(crate) fn stops(guard: Guard, vars: &[Var], env: &Env) -> bool
     requires sound { AreSound vars.now }
     requires typed { IsTyped vars.now (tree guard.cond.now) }
     requires fits { Fits vars.now env.now.values }
-    ensures { result ≡ stops_body guard.entry.weak guard.entry.immediate (is_zero (value vars.now env.now.values (tree guard.entry.cond.now))) }
+    ensures { result ≡ stops_body guard.entry.weak guard.entry.immediate
+        (is_zero (value vars.now env.now.values (tree guard.entry.cond.now))) }
 {
     guard.immediate && !guard.weak && !is_false(guard.cond, vars, env)
 }
 
 // The guard of that kind around a form.
 fn guard_form(alloc: Global, guard: Guard, immediate: bool, body: Form) -> Result<Form, NoMemory>
-    ensures { IfOk result (λ f. term f ≡ guard_of guard.entry.abort guard.entry.weak immediate (term body) (tree guard.entry.cond.now)) }
+    ensures { IfOk result (λ f. term f ≡ guard_of guard.entry.abort guard.entry.weak immediate
+        (term body) (tree guard.entry.cond.now)) }
 {
     Ok(Form::Guard {
         abort: guard.abort,
@@ -257,7 +290,7 @@ fn guard_form(alloc: Global, guard: Guard, immediate: bool, body: Form) -> Resul
 }
 
 /// A guard that stops its body, which advances.
-pub(crate) fn stopping(
+pub(crate) fn stop_body(
     alloc: Global,
     guard: Guard,
     vars: &[Var],
@@ -266,8 +299,12 @@ pub(crate) fn stopping(
     requires sound { AreSound vars.now }
     requires typed { IsTyped vars.now (tree guard.cond.now) }
     requires fits { Fits vars.now env.now.values }
-    requires stops { stops_body guard.weak guard.immediate (is_zero (value vars.now env.now.values (tree guard.cond.now))) ≡ true }
-    ensures reaction { IfOk result (λ f. (t : Term) → reaction_of t f ≡ strong_guard guard.entry.abort (tick vars.now (term guard.entry.body.now)) (tree guard.entry.cond.now) (faults_of vars.now env.now.values (tree guard.entry.cond.now))) }
+    requires stops { stops_body guard.weak guard.immediate
+        (is_zero (value vars.now env.now.values (tree guard.cond.now))) ≡ true }
+    ensures reaction { IfOk result (λ f. (t : Term) →
+        reaction_of t f ≡ strong_guard guard.entry.abort
+        (tick vars.now (term guard.entry.body.now)) (tree guard.entry.cond.now)
+        (faults_of vars.now env.now.values (tree guard.entry.cond.now))) }
     ensures used { IfOk result (λ f. f.used ≡ 0) }
 {
     let mut faults = Vec::new(alloc);
@@ -275,16 +312,17 @@ pub(crate) fn stopping(
     let advanced = tick_form(alloc, guard.body, vars)?;
     let held = guard_form(alloc, guard, true, advanced)?;
     if guard.abort {
-        Ok(ending(alloc, Some(held), Vec::new(alloc), faults))
+        Ok(end_at_once(alloc, Some(held), Vec::new(alloc), faults))
     } else {
-        let residual = copied(alloc, &held)?;
-        Ok(staying(alloc, residual, Some(held), faults))
+        let residual = copy_form(alloc, &held)?;
+        Ok(stay(alloc, residual, Some(held), faults))
     }
 }
 
 // What is left under a guard.
 fn left_under(alloc: Global, guard: Guard, ended: bool, residual: Form) -> Result<Form, NoMemory>
-    ensures { IfOk result (λ f. term f ≡ unless_ended ended (guard_of guard.entry.abort guard.entry.weak true (term residual) (tree guard.entry.cond.now))) }
+    ensures { IfOk result (λ f. term f ≡ unless_ended ended (guard_of guard.entry.abort
+        guard.entry.weak true (term residual) (tree guard.entry.cond.now))) }
 {
     if ended {
         Ok(Form::Nothing)
@@ -296,7 +334,8 @@ fn left_under(alloc: Global, guard: Guard, ended: bool, residual: Form) -> Resul
 
 // The guard around what its body is held by.
 fn held_guard(alloc: Global, guard: Guard, held: Option<Form>) -> Result<Form, NoMemory>
-    ensures { IfOk result (λ f. term f ≡ guard_of guard.entry.abort guard.entry.weak true (held_or (option_map term held) (term guard.entry.body.now)) (tree guard.entry.cond.now)) }
+    ensures { IfOk result (λ f. term f ≡ guard_of guard.entry.abort guard.entry.weak true
+        (held_or (option_map term held) (term guard.entry.body.now)) (tree guard.entry.cond.now)) }
 {
     let body = held_form(alloc, held, guard.body)?;
     let all = guard_form(alloc, guard, true, body)?;
@@ -305,7 +344,9 @@ fn held_guard(alloc: Global, guard: Guard, held: Option<Form>) -> Result<Form, N
 
 // The guard around what is left of its body, and around the held body.
 fn around(alloc: Global, guard: Guard, found: Found) -> Result<Found, NoMemory>
-    ensures reaction { IfOk result (λ f. (t : Term) → reaction_of t f ≡ formed (λ u. guard_of guard.entry.abort guard.entry.weak true u (tree guard.entry.cond.now)) (reaction_of (term guard.entry.body.now) found)) }
+    ensures reaction { IfOk result (λ f. (t : Term) →
+        reaction_of t f ≡ formed (λ u. guard_of guard.entry.abort guard.entry.weak true u
+        (tree guard.entry.cond.now)) (reaction_of (term guard.entry.body.now) found)) }
     ensures used { IfOk result (λ f. f.used ≡ found.used) }
 {
     Ok(Found {
@@ -320,8 +361,11 @@ fn around(alloc: Global, guard: Guard, found: Found) -> Result<Found, NoMemory>
 }
 
 // A guard in the step in which it starts.
-fn delayed(alloc: Global, guard: Guard, found: Found) -> Result<Found, NoMemory>
-    ensures reaction { IfOk result (λ f. reaction_of (guard_of guard.entry.abort guard.entry.weak false (term guard.entry.body.now) (tree guard.entry.cond.now)) f ≡ delayed_guard guard.entry.abort guard.entry.weak (term guard.entry.body.now) (tree guard.entry.cond.now) (reaction_of (term guard.entry.body.now) found)) }
+fn start_guard(alloc: Global, guard: Guard, found: Found) -> Result<Found, NoMemory>
+    ensures reaction { IfOk result (λ f. reaction_of (guard_of guard.entry.abort
+        guard.entry.weak false (term guard.entry.body.now) (tree guard.entry.cond.now)) f
+        ≡ delayed_guard guard.entry.abort guard.entry.weak (term guard.entry.body.now)
+        (tree guard.entry.cond.now) (reaction_of (term guard.entry.body.now) found)) }
     ensures used { IfOk result (λ f. f.used ≡ found.used) }
 {
     Ok(Found {
@@ -336,10 +380,11 @@ fn delayed(alloc: Global, guard: Guard, found: Found) -> Result<Found, NoMemory>
 }
 
 // A weak abort whose condition holds: it ends.
-fn aborted(alloc: Global, guard: Guard, found: Found) -> Result<Found, NoMemory>
+fn end_by_abort(alloc: Global, guard: Guard, found: Found) -> Result<Found, NoMemory>
     requires abort { guard.abort ≡ true }
     requires weak { guard.weak ≡ true }
-    ensures reaction { IfOk result (λ f. (t : Term) → reaction_of t f ≡ weak_guard true (tree guard.entry.cond.now) [] (reaction_of (term guard.entry.body.now) found)) }
+    ensures reaction { IfOk result (λ f. (t : Term) → reaction_of t f ≡ weak_guard true
+        (tree guard.entry.cond.now) [] (reaction_of (term guard.entry.body.now) found)) }
     ensures used { IfOk result (λ f. f.used ≡ found.used) }
 {
     Ok(Found {
@@ -354,15 +399,16 @@ fn aborted(alloc: Global, guard: Guard, found: Found) -> Result<Found, NoMemory>
 }
 
 // A weak suspension whose condition holds: it stays around the held body.
-fn suspended(alloc: Global, guard: Guard, found: Found) -> Result<Found, NoMemory>
+fn hold_by_suspension(alloc: Global, guard: Guard, found: Found) -> Result<Found, NoMemory>
     requires abort { guard.abort ≡ false }
     requires weak { guard.weak ≡ true }
-    ensures reaction { IfOk result (λ f. (t : Term) → reaction_of t f ≡ weak_guard false (tree guard.entry.cond.now) [] (reaction_of (term guard.entry.body.now) found)) }
+    ensures reaction { IfOk result (λ f. (t : Term) → reaction_of t f ≡ weak_guard false
+        (tree guard.entry.cond.now) [] (reaction_of (term guard.entry.body.now) found)) }
     ensures used { IfOk result (λ f. f.used ≡ found.used) }
 {
     let held = held_guard(alloc, guard, found.held)?;
     Ok(Found {
-        residual: copied(alloc, &held)?,
+        residual: copy_form(alloc, &held)?,
         held: Some(held),
         acts: found.acts,
         faults: found.faults,
@@ -373,22 +419,23 @@ fn suspended(alloc: Global, guard: Guard, found: Found) -> Result<Found, NoMemor
 }
 
 // A weak guard whose condition holds.
-fn preempted(alloc: Global, guard: Guard, found: Found) -> Result<Found, NoMemory>
+fn preempt(alloc: Global, guard: Guard, found: Found) -> Result<Found, NoMemory>
     requires weak { guard.weak ≡ true }
-    ensures reaction { IfOk result (λ f. (t : Term) → reaction_of t f ≡ weak_guard guard.entry.abort (tree guard.entry.cond.now) [] (reaction_of (term guard.entry.body.now) found)) }
+    ensures reaction { IfOk result (λ f. (t : Term) → reaction_of t f ≡ weak_guard guard.entry.abort
+        (tree guard.entry.cond.now) [] (reaction_of (term guard.entry.body.now) found)) }
     ensures used { IfOk result (λ f. f.used ≡ found.used) }
 {
     if guard.abort {
-        let ended = aborted(alloc, guard, found)?;
+        let ended = end_by_abort(alloc, guard, found)?;
         Ok(ended)
     } else {
-        let stayed = suspended(alloc, guard, found)?;
+        let stayed = hold_by_suspension(alloc, guard, found)?;
         Ok(stayed)
     }
 }
 
 // An immediate guard around what its body did.
-fn tested(
+fn test_guard(
     alloc: Global,
     guard: Guard,
     vars: &[Var],
@@ -398,8 +445,13 @@ fn tested(
     requires sound { AreSound vars.now }
     requires typed { IsTyped vars.now (tree guard.cond.now) }
     requires fits { Fits vars.now env.now.values }
-    requires spares { stops_body guard.weak true (is_zero (value vars.now env.now.values (tree guard.cond.now))) ≡ false }
-    ensures reaction { IfOk result (λ f. (t : Term) → reaction_of t f ≡ tested_guard guard.entry.abort guard.entry.weak (is_zero (value vars.now env.now.values (tree guard.entry.cond.now))) (tree guard.entry.cond.now) (faults_of vars.now env.now.values (tree guard.entry.cond.now)) (reaction_of (term guard.entry.body.now) found)) }
+    requires spares { stops_body guard.weak true
+        (is_zero (value vars.now env.now.values (tree guard.cond.now))) ≡ false }
+    ensures reaction { IfOk result (λ f. (t : Term) →
+        reaction_of t f ≡ tested_guard guard.entry.abort guard.entry.weak
+        (is_zero (value vars.now env.now.values (tree guard.entry.cond.now)))
+        (tree guard.entry.cond.now) (faults_of vars.now env.now.values (tree guard.entry.cond.now))
+        (reaction_of (term guard.entry.body.now) found)) }
     ensures used { IfOk result (λ f. f.used ≡ found.used) }
 {
     let found = after_condition(alloc, guard.cond, vars, env, found)?;
@@ -407,13 +459,13 @@ fn tested(
         let stayed = around(alloc, guard, found)?;
         Ok(stayed)
     } else {
-        let taken = preempted(alloc, guard, found)?;
+        let taken = preempt(alloc, guard, found)?;
         Ok(taken)
     }
 }
 
 /// What a guard makes of what its body did.
-pub(crate) fn guarded(
+pub(crate) fn react_guard(
     alloc: Global,
     guard: Guard,
     vars: &[Var],
@@ -423,15 +475,20 @@ pub(crate) fn guarded(
     requires sound { AreSound vars.now }
     requires typed { IsTyped vars.now (tree guard.cond.now) }
     requires fits { Fits vars.now env.now.values }
-    requires spares { stops_body guard.weak guard.immediate (is_zero (value vars.now env.now.values (tree guard.cond.now))) ≡ false }
-    ensures reaction { IfOk result (λ f. reaction_of (guard_of guard.entry.abort guard.entry.weak guard.entry.immediate (term guard.entry.body.now) (tree guard.entry.cond.now)) f ≡ guarded_walk vars.now env.now.values guard.entry.abort guard.entry.weak guard.entry.immediate (term guard.entry.body.now) (tree guard.entry.cond.now) (reaction_of (term guard.entry.body.now) found)) }
+    requires spares { stops_body guard.weak guard.immediate
+        (is_zero (value vars.now env.now.values (tree guard.cond.now))) ≡ false }
+    ensures reaction { IfOk result (λ f. reaction_of (guard_of guard.entry.abort guard.entry.weak
+        guard.entry.immediate (term guard.entry.body.now) (tree guard.entry.cond.now)) f
+        ≡ guarded_walk vars.now env.now.values guard.entry.abort
+        guard.entry.weak guard.entry.immediate (term guard.entry.body.now)
+        (tree guard.entry.cond.now) (reaction_of (term guard.entry.body.now) found)) }
     ensures used { IfOk result (λ f. f.used ≡ found.used) }
 {
     if guard.immediate {
-        let tested = tested(alloc, guard, vars, env, found)?;
+        let tested = test_guard(alloc, guard, vars, env, found)?;
         Ok(tested)
     } else {
-        let delayed = delayed(alloc, guard, found)?;
+        let delayed = start_guard(alloc, guard, found)?;
         Ok(delayed)
     }
 }

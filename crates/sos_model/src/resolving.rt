@@ -118,7 +118,8 @@ pub(crate) fn store_in(
     store: &Option<Vec<Kept>>,
 ) -> Result<Vec<Kept>, NoMemory>
     requires { AreSound vars.now }
-    ensures { IfOk result (λ s. s.items ≡ store_of vars.now var (option_map (λ v. v.items) store.now)) }
+    ensures { IfOk result (λ s.
+        s.items ≡ store_of vars.now var (option_map (λ v. v.items) store.now)) }
 {
     match store {
         Some(store) => Ok(Vec::from_slice(alloc, store)?),
@@ -135,7 +136,8 @@ pub(crate) fn wanted_values(
     store: &[Kept],
 ) -> Result<Vec<i64>, NoMemory>
     requires { length store.now < 2 ^ 32 }
-    ensures { IfOk result (λ v. v.items ≡ values_of (resolved_store storage var acts.now 0 store.now)) }
+    ensures { IfOk result (λ v.
+        v.items ≡ values_of (resolved_store storage var acts.now 0 store.now)) }
 {
     let mut all = Vec::new(alloc);
     for (element, kept) in store.iter().enumerate() {
@@ -173,7 +175,8 @@ fn add_element_conflicts(
     element: u32,
     value: i64,
 ) -> Result<(), NoMemory>
-    ensures { IfOk result (λ _. all.new.items ≡ all.old.items ++ conflicts place value (writes_of var element false acts.now) (writes_of var element true acts.now)) }
+    ensures { IfOk result (λ _. all.new.items ≡ all.old.items ++ conflicts place value
+        (writes_of var element false acts.now) (writes_of var element true acts.now)) }
 {
     let contradicted = is_contradicted(acts, var, element, false, value);
     add_fault(all, contradicted, Kind::Conflict, place)?;
@@ -190,7 +193,8 @@ pub(crate) fn add_conflicts(
     values: &[i64],
 ) -> Result<(), NoMemory>
     requires { length values.now < 2 ^ 32 }
-    ensures { IfOk result (λ _. all.new.items ≡ all.old.items ++ store_conflicts place var acts.now 0 values.now) }
+    ensures { IfOk result (λ _. all.new.items ≡ all.old.items
+        ++ store_conflicts place var acts.now 0 values.now) }
 {
     for (element, value) in values.iter().enumerate() {
         add_element_conflicts(all, place, acts, var, element as u32, *value)?;

@@ -1,3 +1,5 @@
+//! The forms of statements.
+
 ghost use Rattle.std.specs.Prelude.{◌≡◌, IfOk, map, option_map};
 ghost use Rattle.quartz_tree.specs.Tree.{tree};
 ghost use Rattle.quartz_tree.specs.Kernel.{kernel};

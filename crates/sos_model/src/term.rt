@@ -1,3 +1,5 @@
+//! Terms: forms over variables that can react.
+
 ghost use Rattle.std.specs.Prelude.{◌≡◌, true, IfOk};
 ghost use Rattle.quartz_tree.specs.Kernel.{kernel};
 ghost use Rattle.quartz_expr.specs.Terms.{term_of};
@@ -82,7 +84,8 @@ impl Term {
 /// The term once each store in it has gone through a macro step with no writes.
 #[tactic(auto, using(crate::proofs::SoundLemmas::stays_sound))]
 pub fn tick(alloc: Global, before: &Term) -> Result<Term, NoMemory>
-    ensures term { IfOk result (λ t. term t.form ≡ advanced_term before.now.vars (term before.now.form)) }
+    ensures term { IfOk result (λ t. term t.form
+        ≡ advanced_term before.now.vars (term before.now.form)) }
     ensures vars { IfOk result (λ t. t.vars ≡ before.now.vars) }
 {
     Ok(Term {

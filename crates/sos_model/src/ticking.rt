@@ -1,3 +1,5 @@
+//! How stores go through a macro step in which nothing is written.
+
 ghost use Rattle.std.specs.Prelude.{◌≡◌, IfOk, map, option_map};
 ghost use Rattle.quartz_tree.specs.Tree.{tree};
 ghost use Rattle.quartz_expr.specs.Vars.{storage_of};
@@ -52,7 +54,8 @@ fn advance_store(
     var: u32,
     store: &Option<Vec<Kept>>,
 ) -> Result<Option<Vec<Kept>>, NoMemory>
-    ensures { IfOk result (λ s. option_map (λ v. v.items) s ≡ option_map (advanced vars.now var) (option_map (λ v. v.items) store.now)) }
+    ensures { IfOk result (λ s. option_map (λ v. v.items) s
+        ≡ option_map (advanced vars.now var) (option_map (λ v. v.items) store.now)) }
 {
     match store {
         None => Ok(None),

@@ -120,7 +120,8 @@ fn walk_in_order(
     requires vars { AreSound vars.now }
     requires sound { are_sound vars.now (terms (map term parts.now)) ≡ true }
     requires fits { Fits vars.now env.old.values }
-    ensures walked { Walked vars.now env.old.values (seq (terms (map term parts.now))) given.now result }
+    ensures walked { Walked vars.now env.old.values
+        (seq (terms (map term parts.now))) given.now result }
     ensures env { env.new.values ≡ env.old.values }
 {
     let mut passed = Passed::new(alloc);
@@ -147,7 +148,8 @@ fn walk_beside(
     requires vars { AreSound vars.now }
     requires sound { are_sound vars.now (terms (map term parts.now)) ≡ true }
     requires fits { Fits vars.now env.old.values }
-    ensures walked { Walked vars.now env.old.values (par (terms (map term parts.now))) given.now result }
+    ensures walked { Walked vars.now env.old.values
+        (par (terms (map term parts.now))) given.now result }
     ensures env { env.new.values ≡ env.old.values }
 {
     let mut all = Beside::new(alloc);

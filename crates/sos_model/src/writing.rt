@@ -52,7 +52,8 @@ fn add_target_faults(
     requires sound { AreSound vars.now }
     requires typed { IsTypedIndex vars.now (option_map tree index.now) }
     requires fits { Fits vars.now env.now.values }
-    ensures { IfOk result (λ _. all.new.items ≡ all.old.items ++ target_faults vars.now env.now.values (option_map tree index.now)) }
+    ensures { IfOk result (λ _. all.new.items ≡ all.old.items
+        ++ target_faults vars.now env.now.values (option_map tree index.now)) }
 {
     match index {
         None => Ok(()),
@@ -78,7 +79,8 @@ pub(crate) fn act_of(write: Assignment, vars: &[Var], env: &Env) -> Option<Act>
     requires index { IsTypedIndex vars.now (option_map tree write.index.now) }
     requires value { IsTyped vars.now (tree write.value.now) }
     requires fits { Fits vars.now env.now.values }
-    ensures { option_to_list result ≡ write_acts vars.now env.now.values write.entry.var (option_map tree write.entry.index.now) (tree write.entry.value.now) write.entry.delayed }
+    ensures { option_to_list result ≡ write_acts vars.now env.now.values write.entry.var
+        (option_map tree write.entry.index.now) (tree write.entry.value.now) write.entry.delayed }
 {
     let index = index_of_target(vars, env, write.index);
     if !names_element(vars, write.var, index) {
@@ -103,7 +105,9 @@ pub(crate) fn add_write_faults(
     requires index { IsTypedIndex vars.now (option_map tree write.index.now) }
     requires value { IsTyped vars.now (tree write.value.now) }
     requires fits { Fits vars.now env.now.values }
-    ensures { IfOk result (λ _. all.new.items ≡ all.old.items ++ write_faults vars.now env.now.values write.entry.var (option_map tree write.entry.index.now) (tree write.entry.value.now) write.entry.place write.entry.target_place) }
+    ensures { IfOk result (λ _. all.new.items ≡ all.old.items ++ write_faults vars.now
+        env.now.values write.entry.var (option_map tree write.entry.index.now)
+        (tree write.entry.value.now) write.entry.place write.entry.target_place) }
 {
     add_target_faults(all, write.index, vars, env)?;
     add_faults(all, write.value, vars, env)?;

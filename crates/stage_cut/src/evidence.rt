@@ -1,3 +1,5 @@
+//! The places that show that no division is lighter.
+
 ghost use Rattle.std.specs.Prelude.{◌≡◌, ◌-◌, ◌<◌, ◌^◌, ◌↔◌, ◌⊎◌, [], length, IsTrue, IfOk, Contains};
 ghost use Rattle.stage_cut.specs.Division.{IsFeasible, IsLeastPossible};
 ghost use Rattle.stage_cut.specs.Greedy.{AreGreedyStarts};
@@ -7,7 +9,8 @@ use crate::memory::NoMemory;
 use crate::parts::greedy_ends;
 use std::alloc::Global;
 
-// Whether the weight is 0 or that of one cell, so that no places are needed to see that it is least.
+// Whether the weight is 0 or that of one cell, so that no places are needed to see that it is
+// least.
 fn is_plain(weights: &[u32], weight: u64) -> bool
     ensures { IsTrue result ↔ ((weight ≡ 0) ⊎ Contains weights.now weight) }
 {
@@ -25,7 +28,8 @@ pub fn places(
     requires few { length weights.now < 2 ^ 32 }
     requires feasible { IsFeasible weights.now stages weight }
     requires least { IsLeastPossible weights.now stages weight }
-    ensures plain { IfOk result (λ p. (p.items ≡ []) ↔ ((weight ≡ 0) ⊎ Contains weights.now weight)) }
+    ensures plain { IfOk result
+        (λ p. (p.items ≡ []) ↔ ((weight ≡ 0) ⊎ Contains weights.now weight)) }
     ensures starts { IfOk result (λ p. AreGreedyStarts weights.now (weight - 1) p.items) }
     ensures evidence { IfOk result (λ p. IsEvidence weights.now stages weight p.items) }
 {

@@ -1,4 +1,5 @@
-//! The least cut: a list of weights in contiguous parts, of which the heaviest weighs as little as can be.
+//! The least cut: a list of weights in contiguous parts, of which the heaviest weighs as little as
+//! can be.
 #![tactic(auto)]
 
 ghost use Rattle.std.specs.Prelude.{◌≡◌, ◌-◌, ◌<◌, ◌≤◌, ◌^◌, ◌↔◌, ◌⊎◌, [], length, IfOk, Contains};
@@ -11,8 +12,6 @@ mod evidence;
 mod memory;
 mod parts;
 mod search;
-#[cfg(test)]
-mod tests;
 
 pub use division::Cut;
 pub use memory::NoMemory;
@@ -20,10 +19,11 @@ use parts::greedy_ends;
 use search::least_weight;
 use std::alloc::Global;
 
-/// Divides the weights into `stages` contiguous parts, some possibly empty, so that the heaviest part weighs least.
+/// Divides the weights into `stages` contiguous parts, some possibly empty, so that the heaviest
+/// part weighs least.
 ///
-/// For n weights with the sum s it takes about n log s steps. Weights of 0 are allowed too. The only error is want of
-/// memory.
+/// For n weights with the sum s it takes about n log s steps. Weights of 0 are allowed too. The
+/// only error is want of memory.
 #[tactic(auto, using(crate::proofs::EvidenceLemmas::cut_lemmas))]
 pub fn cut(alloc: Global, weights: &[u32], stages: u32) -> Result<Cut, NoMemory>
     requires few { length weights.now < 2 ^ 32 }
@@ -34,8 +34,10 @@ pub fn cut(alloc: Global, weights: &[u32], stages: u32) -> Result<Cut, NoMemory>
     ensures least { IfOk result (λ c. IsLeastPossible weights.now stages c.weight) }
     ensures greedy { IfOk result (λ c. IsGreedy weights.now c.weight 0 c.ends.items) }
 
-    // What `proof` is, what it shows by sums alone, and what follows from that, whoever gave the places.
-    ensures plain { IfOk result (λ c. (c.proof.items ≡ []) ↔ ((c.weight ≡ 0) ⊎ Contains weights.now c.weight)) }
+    // What `proof` is, what it shows by sums alone, and what follows from that, whoever gave the
+    // places.
+    ensures plain { IfOk result
+        (λ c. (c.proof.items ≡ []) ↔ ((c.weight ≡ 0) ⊎ Contains weights.now c.weight)) }
     ensures starts { IfOk result (λ c. AreGreedyStarts weights.now (c.weight - 1) c.proof.items) }
     ensures evidence { IfOk result (λ c. IsEvidence weights.now stages c.weight c.proof.items) }
     ensures suffices { EvidenceSuffices weights.now stages }

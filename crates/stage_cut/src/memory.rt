@@ -1,3 +1,5 @@
+//! The one error: want of memory.
+
 use std::alloc::{AllocError, AllocFailed};
 use thiserror::Error;
 

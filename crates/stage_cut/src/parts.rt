@@ -1,3 +1,5 @@
+//! Parts that are each as long as a bound on their weight allows.
+
 ghost use Rattle.std.specs.Prelude.{ℕ, ◌<◌, ◌≤◌, ◌^◌, ◌↔◌, length, IsTrue, IfOk};
 ghost use Rattle.stage_cut.specs.Division.{IsFeasible};
 ghost use Rattle.stage_cut.specs.Greedy.{IsLongestPart, IsGreedyRun};

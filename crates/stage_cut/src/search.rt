@@ -1,3 +1,5 @@
+//! The least weight of a heaviest part, by halving.
+
 ghost use Rattle.std.specs.Prelude.{◌≡◌, ◌<◌, ◌≤◌, ◌^◌, length, sum};
 ghost use Rattle.stage_cut.specs.Division.{IsFeasible, IsLeastPossible};
 

@@ -4,6 +4,3 @@
 mod packet;
 
 pub use packet::{Back, Body, Cause, Packet};
-
-#[cfg(test)]
-mod tests;

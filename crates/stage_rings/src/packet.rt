@@ -1,3 +1,5 @@
+//! Packets, and what they are about.
+
 use quartz_tree::Fault;
 
 /// Why no more macro steps come.

@@ -1,3 +1,5 @@
+//! What is built from statements.
+
 use aif_cells::{Action, Aif, Ref};
 use reincarnation::{ClosedRefs, Entered};
 use sqlite_items::Items;
@@ -10,8 +12,8 @@ pub struct Entry {
     pub under: Ref,
 }
 
-/// What is known of a variable: how many copies it has, and the actions that write to the copy that isn't closed, now
-/// and for the next macro step.
+/// What is known of a variable: how many copies it has, and the actions that write to the copy that
+/// isn't closed, now and for the next macro step.
 #[derive(Debug, Drop)]
 pub struct OpenVar {
     pub copies: u32,
@@ -19,8 +21,8 @@ pub struct OpenVar {
     pub next: Items<Action>,
 }
 
-/// A copy without store of a scope whose registers begin at `first`. It is still active behind the macro step where its
-/// reference isn't 0.
+/// A copy without store of a scope whose registers begin at `first`. It is still active behind the
+/// macro step where its reference isn't 0.
 #[derive(Debug, Drop)]
 pub struct EnteredCopy {
     pub var: u32,
@@ -28,7 +30,8 @@ pub struct EnteredCopy {
     pub entered: Entered,
 }
 
-/// The copy with store of a scope, with so many labels from `label` on, whose registers begin at `first`.
+/// The copy with store of a scope, with so many labels from `label` on, whose registers begin at
+/// `first`.
 #[derive(Debug, Drop)]
 pub struct DepthCopy {
     pub var: u32,
@@ -40,8 +43,9 @@ pub struct DepthCopy {
 
 /// What is built from statements. Each new thing comes behind those that are there.
 ///
-/// `copies` and `variables` have an entry for each variable of the `Aif`, by number: its current copy, and what is known of
-/// it. `entered` and `depths` are the copies of scopes with registers, in the order in which they were closed.
+/// `copies` and `variables` have an entry for each variable of the `Aif`, by number: its current
+/// copy, and what is known of it. `entered` and `depths` are the copies of scopes with registers,
+/// in the order in which they were closed.
 #[derive(Debug, Drop)]
 pub struct Builder {
     pub aif: Aif,

@@ -1,4 +1,5 @@
-//! The scopes around a statement: a loop opens them from the outermost inwards, and closes them from the innermost outwards.
+//! The scopes around a statement: a loop opens them from the outermost inwards, and closes them
+//! from the innermost outwards.
 
 ghost use Rattle.std.specs.Prelude.{ℕ, ◌≡◌, ◌≢◌, false, reverse, true, IfOk, OnOk};
 ghost use Rattle.aif_cells.specs.declared.reference.Ref.{Ref as AnyRef};
@@ -20,7 +21,8 @@ use quartz_tree::{NoMemory, Stmt, Var};
 use reincarnation::Entered;
 use std::alloc::Global;
 
-/// The scopes that were opened around a statement, the innermost last, and the first register of the scopes inside it.
+/// The scopes that were opened around a statement, the innermost last, and the first register of
+/// the scopes inside it.
 #[derive(Debug, Drop)]
 pub(crate) struct Chain {
     pub scopes: Vec<Scope>,
@@ -40,7 +42,9 @@ impl Builder {
     ) -> Result<Chain, NoMemory>
         requires over { IsOver vars.now self.old }
         requires sound { IsSound vars.now (term_of (kernel stmt.now)) }
-        ensures { IfOk result (λ c. OpensAll vars.now self.old stored labels first (term_of (kernel stmt.now)) (reverse c.scopes.items) c.register (term_of (unscoped (kernel stmt.now))) self.new) }
+        ensures { IfOk result
+            (λ c. OpensAll vars.now self.old stored labels first (term_of (kernel stmt.now))
+            (reverse c.scopes.items) c.register (term_of (unscoped (kernel stmt.now))) self.new) }
     {
         let mut scopes = Vec::new(alloc);
         let mut register = first;
@@ -54,7 +58,8 @@ impl Builder {
         Ok(Chain { scopes, register })
     }
 
-    // Closes the copy without store of a scope with so many labels, and says where it is still active behind the step.
+    // Closes the copy without store of a scope with so many labels, and says where it is still
+    // active behind the step.
     fn end_started(
         &mut self,
         alloc: Global,
@@ -66,7 +71,9 @@ impl Builder {
         end: Ref,
     ) -> Result<(), NoMemory>
         requires { IsOver vars.now self.old }
-        ensures { OnOk result (Ends vars.now self.old scope false end (scope_started vars.now scope.var labels scope.first go step) self.new) }
+        ensures { OnOk result
+            (Ends vars.now self.old scope false end
+            (scope_started vars.now scope.var labels scope.first go step) self.new) }
     {
         let var = scope.var;
         let first = scope.first;
@@ -97,7 +104,9 @@ impl Builder {
         end: Ref,
     ) -> Result<(), NoMemory>
         requires { IsOver vars.now self.old }
-        ensures { OnOk result ((res : AnyRef) → Ends vars.now self.old scope true end (scope_resumed vars.now scope.var label labels scope.first res) self.new) }
+        ensures { OnOk result
+            ((res : AnyRef) → Ends vars.now self.old scope true end
+            (scope_resumed vars.now scope.var label labels scope.first res) self.new) }
     {
         let var = scope.var;
         let first = scope.first;
@@ -129,7 +138,9 @@ impl Builder {
     ) -> Result<(), NoMemory>
         requires over { IsOver vars.now self.old }
         requires starts { plain_is_zero go ≡ false }
-        ensures { OnOk result ((label : ℕ) → EndsAll vars.now self.old false labels (reverse scopes.items) end (λ s. surface vars.now s.copies label s.register s.term go step s.built) self.new) }
+        ensures { OnOk result
+            ((label : ℕ) → EndsAll vars.now self.old false labels (reverse scopes.items) end
+            (λ s. surface vars.now s.copies label s.register s.term go step s.built) self.new) }
     {
         let mut left = scopes;
         while let Some(scope) = left.pop() {
@@ -150,7 +161,10 @@ impl Builder {
     ) -> Result<(), NoMemory>
         requires over { IsOver vars.now self.old }
         requires some { labels ≢ 0 }
-        ensures { OnOk result ((res step stay : AnyRef) → EndsAll vars.now self.old true labels (reverse scopes.items) end (λ s. depth vars.now s.copies label s.register s.term res step stay s.built) self.new) }
+        ensures { OnOk result
+            ((res step stay : AnyRef)
+            → EndsAll vars.now self.old true labels (reverse scopes.items) end
+            (λ s. depth vars.now s.copies label s.register s.term res step stay s.built) self.new) }
     {
         let mut left = scopes;
         while let Some(scope) = left.pop() {

@@ -4,14 +4,14 @@ ghost use Rattle.std.specs.Prelude.{◌≡◌, ◌+◌, ◌<◌, length, map, If
 ghost use Rattle.quartz_tree.specs.Kernel.{kernel, kernels};
 ghost use Rattle.quartz_expr.specs.Terms.{term_of, terms_of};
 ghost use Rattle.quartz_expr.specs.Vars.{count_of};
-ghost use Rattle.absence_reaction.specs.Closing.{is_memorized as plain_is_memorized, registers_each as plain_registers_each};
+ghost use Rattle.absence_reaction.specs.Closing.{registers_each as plain_registers_each};
 ghost use Rattle.statement_cells.specs.Labels.{labels, labels_all, registers, registers_all, scope_registers as plain_scope_registers, shape_in};
 ghost use Rattle.statement_cells.specs.Whole.{variable_registers as plain_variable_registers};
 ghost use Rattle.statement_builder.specs.Chains.{chain_registers as plain_chain_registers, is_scope as plain_is_scope};
 
 use crate::gates::plus;
 use quartz_names::unscoped;
-use quartz_tree::{NoMemory, Stmt, Storage, Var};
+use quartz_tree::{NoMemory, Stmt, Var};
 
 /// How many labels a statement has, and how many registers the variables of its scopes have.
 #[derive(Clone, Copy, Debug, PartialEq, Eq)]
@@ -30,8 +30,10 @@ pub struct Numbers {
 impl Numbers {
     /// Where those of the next statement begin.
     pub(crate) fn behind(self, stmt: &Stmt, vars: &[Var]) -> Result<Numbers, NoMemory>
-        ensures label { IfOk result (λ n. n.label ≡ self.label + labels (term_of (kernel stmt.now))) }
-        ensures register { IfOk result (λ n. n.register ≡ self.register + registers vars.now (term_of (kernel stmt.now))) }
+        ensures label { IfOk result
+            (λ n. n.label ≡ self.label + labels (term_of (kernel stmt.now))) }
+        ensures register { IfOk result
+            (λ n. n.register ≡ self.register + registers vars.now (term_of (kernel stmt.now))) }
     {
         let counted = count(stmt, vars)?;
         Ok(Numbers {
@@ -51,15 +53,6 @@ pub(crate) fn count_elements(vars: &[Var], var: u32) -> u128
     }
 }
 
-fn is_memorized(storage: Storage) -> bool
-    ensures { result ≡ plain_is_memorized storage }
-{
-    match storage {
-        Storage::Mem => true,
-        Storage::Event => false,
-    }
-}
-
 // How many registers each element of a variable has.
 fn registers_each(vars: &[Var], var: u32) -> u32
     ensures { result ≡ plain_registers_each (shape_in vars.now var) }
@@ -67,7 +60,7 @@ fn registers_each(vars: &[Var], var: u32) -> u32
     match vars.get(var as usize) {
         Some(var) => {
             let delayed = var.delayed as u32;
-            is_memorized(var.decl.storage) as u32 + (delayed + delayed)
+            var.decl.storage.is_memorized() as u32 + (delayed + delayed)
         }
         None => 1,
     }
@@ -131,7 +124,8 @@ pub(crate) fn is_scope(stmt: &Stmt) -> bool
 #[cycle(counts)]
 pub fn count(stmt: &Stmt, vars: &[Var]) -> Result<Counts, NoMemory>
     ensures labels { IfOk result (λ n. n.labels ≡ labels (term_of (kernel stmt.now))) }
-    ensures registers { IfOk result (λ n. n.registers ≡ registers vars.now (term_of (kernel stmt.now))) }
+    ensures registers { IfOk result
+        (λ n. n.registers ≡ registers vars.now (term_of (kernel stmt.now))) }
 {
     let inner = count_inside(unscoped(stmt), vars)?;
     if inner.labels == 0 {
@@ -159,7 +153,8 @@ fn both(a: Counts, b: Counts) -> Result<Counts, NoMemory>
 #[cycle(counts)]
 fn count_inside(stmt: &Stmt, vars: &[Var]) -> Result<Counts, NoMemory>
     ensures labels { IfOk result (λ n. n.labels ≡ labels (term_of (kernel stmt.now))) }
-    ensures registers { IfOk result (λ n. n.registers ≡ registers vars.now (term_of (kernel stmt.now))) }
+    ensures registers { IfOk result
+        (λ n. n.registers ≡ registers vars.now (term_of (kernel stmt.now))) }
 {
     match stmt {
         Stmt::Nothing => Ok(Counts {
@@ -219,8 +214,10 @@ fn count_inside(stmt: &Stmt, vars: &[Var]) -> Result<Counts, NoMemory>
 /// The counts of several statements.
 #[cycle(counts)]
 pub(crate) fn count_parts(parts: &[Stmt], vars: &[Var]) -> Result<Counts, NoMemory>
-    ensures labels { IfOk result (λ n. n.labels ≡ labels_all (terms_of (kernels (map kernel parts.now)))) }
-    ensures registers { IfOk result (λ n. n.registers ≡ registers_all vars.now (terms_of (kernels (map kernel parts.now)))) }
+    ensures labels { IfOk result
+        (λ n. n.labels ≡ labels_all (terms_of (kernels (map kernel parts.now)))) }
+    ensures registers { IfOk result
+        (λ n. n.registers ≡ registers_all vars.now (terms_of (kernels (map kernel parts.now)))) }
 {
     let mut sum = Counts {
         labels: 0,

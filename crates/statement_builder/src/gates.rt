@@ -1,4 +1,5 @@
-//! References for `not`, `and`, `or` of references, for labels, and for trees. Each use makes a new cell, if it needs one.
+//! References for `not`, `and`, `or` of references, for labels, and for trees. Each use makes a new
+//! cell, if it needs one.
 
 ghost use Rattle.std.specs.Prelude.{◌≡◌, ◌+◌, IfOk};
 ghost use Rattle.aif_cells.specs.Tree.{one as one_tree, tree, two as two_tree, value};
@@ -52,7 +53,7 @@ pub(crate) fn is_zero(reference: Ref) -> bool
 }
 
 // `not` of a reference that is a literal.
-fn negated(reference: Ref) -> Option<Ref>
+fn negate(reference: Ref) -> Option<Ref>
     ensures { result ≡ plain_negated reference }
 {
     match reference {
@@ -134,7 +135,7 @@ impl Builder {
     pub(crate) fn not_of(&mut self, alloc: Global, a: Ref) -> Result<Ref, NoMemory>
         ensures { IfOk result (λ r. Makes self.old self.new r (λ κ. plain_not_of a)) }
     {
-        match negated(a) {
+        match negate(a) {
             Some(literal) => Ok(literal),
             None => {
                 let opposite = one(alloc, TreeOne::Not, a)?;
@@ -191,7 +192,8 @@ impl Builder {
 
     /// A tree as a reference: itself, if it is one.
     pub(crate) fn cell_of(&mut self, computed: Tree) -> Result<Ref, NoMemory>
-        ensures { IfOk result (λ r. Makes self.old self.new r (λ κ. plain_cell_of (tree computed))) }
+        ensures { IfOk result
+            (λ r. Makes self.old self.new r (λ κ. plain_cell_of (tree computed))) }
     {
         match reference_in(&computed) {
             Some(reference) => Ok(reference),

@@ -28,8 +28,8 @@ pub(crate) struct Preemption {
     pub immediate: bool,
 }
 
-/// What the body of a preemption starts or goes on with: its first label, where it starts or goes on, and where control
-/// moves. Beside that the condition of the preemption.
+/// What the body of a preemption starts or goes on with: its first label, where it starts or goes
+/// on, and where control moves. Beside that the condition of the preemption.
 #[derive(Clone, Copy, Debug, PartialEq, Eq)]
 pub(crate) struct Guarded {
     pub cond: Ref,
@@ -63,9 +63,10 @@ impl Builder {
     ) -> Result<Side, NoMemory>
         requires types { AreSound vars.now }
         requires typed { IsTyped vars.now (plain cond.now) }
-        ensures { IfOk result (λ s. Gives Side self.old self.new s (λ κ. first_side vars.now κ (plain cond.now) go)) }
+        ensures { IfOk result
+            (λ s. Gives Side self.old self.new s (λ κ. first_side vars.now κ (plain cond.now) go)) }
     {
-        let cond = self.tested(alloc, vars, cond, go)?;
+        let cond = self.test_cond(alloc, vars, cond, go)?;
         let go = self.and_of(alloc, go, cond)?;
         Ok(Side { cond, go })
     }
@@ -80,14 +81,16 @@ impl Builder {
     }
 
     // The condition blocks the moves of a weak preemption, and the body of a strong one.
-    fn blocked(
+    fn block_body(
         &mut self,
         alloc: Global,
         weak: bool,
         unless: Ref,
         body: Guarded,
     ) -> Result<Guarded, NoMemory>
-        ensures { IfOk result (λ g. Gives Guarded self.old self.new g (λ κ. plain_blocked weak body.cond unless body.label body.go body.step)) }
+        ensures { IfOk result
+            (λ g. Gives Guarded self.old self.new g
+            (λ κ. plain_blocked weak body.cond unless body.label body.go body.step)) }
     {
         if weak {
             let step = self.and_of(alloc, body.step, unless)?;
@@ -108,7 +111,7 @@ impl Builder {
     }
 
     // A suspension that begins suspended enters its wait label. The first label of the body.
-    fn waited(
+    fn enter_wait(
         &mut self,
         alloc: Global,
         abort: bool,
@@ -117,7 +120,8 @@ impl Builder {
         go: Ref,
         step: Ref,
     ) -> Result<u32, NoMemory>
-        ensures { IfOk result (λ l. Gives ℕ self.old self.new l (λ κ. plain_waited abort label cond go step)) }
+        ensures { IfOk result
+            (λ l. Gives ℕ self.old self.new l (λ κ. plain_waited abort label cond go step)) }
     {
         if abort {
             return Ok(label);
@@ -141,10 +145,13 @@ impl Builder {
     ) -> Result<Guarded, NoMemory>
         requires types { AreSound vars.now }
         requires typed { IsTyped vars.now (plain cond.now) }
-        ensures { IfOk result (λ g. Gives Guarded self.old self.new g (λ κ. begun_immediate vars.now κ guard.abort guard.weak (plain cond.now) label go step)) }
+        ensures { IfOk result
+            (λ g. Gives Guarded self.old self.new g
+            (λ κ. begun_immediate vars.now κ guard.abort guard.weak
+            (plain cond.now) label go step)) }
     {
-        let cond = self.tested(alloc, vars, cond, go)?;
-        let label = self.waited(alloc, guard.abort, label, cond, go, step)?;
+        let cond = self.test_cond(alloc, vars, cond, go)?;
+        let label = self.enter_wait(alloc, guard.abort, label, cond, go, step)?;
         let unless = self.not_of(alloc, cond)?;
         let body = Guarded {
             cond,
@@ -152,7 +159,7 @@ impl Builder {
             go,
             step,
         };
-        let begun = self.blocked(alloc, guard.weak, unless, body)?;
+        let begun = self.block_body(alloc, guard.weak, unless, body)?;
         Ok(begun)
     }
 
@@ -169,7 +176,10 @@ impl Builder {
     ) -> Result<Guarded, NoMemory>
         requires types { AreSound vars.now }
         requires typed { IsTyped vars.now (plain cond.now) }
-        ensures { IfOk result (λ g. Gives Guarded self.old self.new g (λ κ. begun_guard vars.now κ guard.abort guard.weak guard.immediate (plain cond.now) label go step)) }
+        ensures { IfOk result
+            (λ g. Gives Guarded self.old self.new g
+            (λ κ. begun_guard vars.now κ guard.abort guard.weak guard.immediate
+            (plain cond.now) label go step)) }
     {
         if guard.immediate {
             let begun = self.begin_immediate(alloc, vars, guard, cond, label, go, step)?;
@@ -191,7 +201,9 @@ impl Builder {
         go: Ref,
         end: Ref,
     ) -> Result<Ref, NoMemory>
-        ensures { IfOk result (λ r. Makes self.old self.new r (λ κ. ended_immediate guard.abort guard.weak cond go end)) }
+        ensures { IfOk result
+            (λ r. Makes self.old self.new r
+            (λ κ. ended_immediate guard.abort guard.weak cond go end)) }
     {
         if guard.abort {
             let aborted = self.end_abort(alloc, go, cond, end)?;
@@ -210,7 +222,9 @@ impl Builder {
         go: Ref,
         end: Ref,
     ) -> Result<Ref, NoMemory>
-        ensures { IfOk result (λ r. Makes self.old self.new r (λ κ. ended_guard guard.abort guard.weak guard.immediate cond go end)) }
+        ensures { IfOk result
+            (λ r. Makes self.old self.new r
+            (λ κ. ended_guard guard.abort guard.weak guard.immediate cond go end)) }
     {
         if guard.immediate {
             let ended = self.end_immediate(alloc, guard, cond, go, end)?;
@@ -233,11 +247,13 @@ impl Builder {
     ) -> Result<Stopped, NoMemory>
         requires types { AreSound vars.now }
         requires typed { IsTyped vars.now (plain cond.now) }
-        ensures { IfOk result (λ s. Gives Stopped self.old self.new s (λ κ. begun_abort vars.now κ weak (plain cond.now) label labels res step)) }
+        ensures { IfOk result
+            (λ s. Gives Stopped self.old self.new s
+            (λ κ. begun_abort vars.now κ weak (plain cond.now) label labels res step)) }
     {
         let within = self.in_of(alloc, label, labels)?;
         let inside = self.and_of(alloc, within, res)?;
-        let cond = self.tested(alloc, vars, cond, inside)?;
+        let cond = self.test_cond(alloc, vars, cond, inside)?;
         let unless = self.not_of(alloc, cond)?;
         let body = Guarded {
             cond,
@@ -245,7 +261,7 @@ impl Builder {
             go: res,
             step,
         };
-        let body = self.blocked(alloc, weak, unless, body)?;
+        let body = self.block_body(alloc, weak, unless, body)?;
         Ok(Stopped { inside, body })
     }
 
@@ -265,7 +281,7 @@ impl Builder {
     }
 
     // Where the labels of a suspension stay, and its condition.
-    fn suspended(
+    fn suspend_labels(
         &mut self,
         alloc: Global,
         vars: &[Var],
@@ -278,11 +294,13 @@ impl Builder {
     ) -> Result<(Ref, Ref), NoMemory>
         requires types { AreSound vars.now }
         requires typed { IsTyped vars.now (plain cond.now) }
-        ensures { IfOk result (λ s. Suspends vars.now self.old self.new s.0 s.1 (λ κ. plain_suspended vars.now κ label labels (plain cond.now) res step stay)) }
+        ensures { IfOk result
+            (λ s. Suspends vars.now self.old self.new s.0 s.1
+            (λ κ. plain_suspended vars.now κ label labels (plain cond.now) res step stay)) }
     {
         let within = self.in_of(alloc, label, labels)?;
         let inside = self.and_of(alloc, within, res)?;
-        let cond = self.tested(alloc, vars, cond, inside)?;
+        let cond = self.test_cond(alloc, vars, cond, inside)?;
         let moves = self.and_of(alloc, step, inside)?;
         let rests = self.and_of(alloc, moves, cond)?;
         let stays = self.or_of(alloc, stay, rests)?;
@@ -304,9 +322,11 @@ impl Builder {
     ) -> Result<Suspension, NoMemory>
         requires types { AreSound vars.now }
         requires typed { IsTyped vars.now (plain cond.now) }
-        ensures { IfOk result (λ s. Gives Suspension self.old self.new s (λ κ. begun_suspend vars.now κ weak (plain cond.now) label labels res step stay)) }
+        ensures { IfOk result
+            (λ s. Gives Suspension self.old self.new s
+            (λ κ. begun_suspend vars.now κ weak (plain cond.now) label labels res step stay)) }
     {
-        let (cond, stay) = self.suspended(alloc, vars, cond, label, labels, res, step, stay)?;
+        let (cond, stay) = self.suspend_labels(alloc, vars, cond, label, labels, res, step, stay)?;
         let unless = self.not_of(alloc, cond)?;
         let body = Guarded {
             cond,
@@ -314,7 +334,7 @@ impl Builder {
             go: res,
             step,
         };
-        let body = self.blocked(alloc, weak, unless, body)?;
+        let body = self.block_body(alloc, weak, unless, body)?;
         Ok(Suspension { stay, body })
     }
 

@@ -23,7 +23,8 @@ impl Builder {
         first: Ref,
         others: &[Ref],
     ) -> Result<Ref, NoMemory>
-        ensures { IfOk result (λ r. Makes self.old self.new r (λ κ. plain_and_more first others.now)) }
+        ensures { IfOk result
+            (λ r. Makes self.old self.new r (λ κ. plain_and_more first others.now)) }
     {
         let mut joined = first;
         for other in others {
@@ -39,7 +40,8 @@ impl Builder {
         without: Ref,
         all: &[Ref],
     ) -> Result<Ref, NoMemory>
-        ensures { IfOk result (λ r. Makes self.old self.new r (λ κ. plain_and_all without all.now)) }
+        ensures { IfOk result
+            (λ r. Makes self.old self.new r (λ κ. plain_and_all without all.now)) }
     {
         if all.is_empty() {
             return Ok(without);
@@ -49,7 +51,7 @@ impl Builder {
     }
 
     // A part with so many labels ended, or is at rest.
-    fn ended_or_at_rest(
+    fn end_or_rest(
         &mut self,
         alloc: Global,
         label: u32,
@@ -72,12 +74,13 @@ impl Builder {
         labels: u32,
         end: Ref,
     ) -> Result<Items<Ref>, NoMemory>
-        ensures { IfOk result (λ rs. MakesAll self.old self.new rs (λ κ. part_end label labels end)) }
+        ensures { IfOk result
+            (λ rs. MakesAll self.old self.new rs (λ κ. part_end label labels end)) }
     {
         if labels == 0 {
             return Ok(Items::new(alloc));
         }
-        let made = self.ended_or_at_rest(alloc, label, labels, end)?;
+        let made = self.end_or_rest(alloc, label, labels, end)?;
         let alone = Items::from_slice(alloc, &[made])?;
         Ok(alone)
     }
@@ -92,7 +95,10 @@ impl Builder {
         ends: &[Ref],
     ) -> Result<Items<Ref>, NoMemory>
         requires { length ends.now ≡ length parts.now }
-        ensures { IfOk result (λ rs. MakesAll self.old self.new rs (λ κ. plain_at_end vars.now label (terms_of (kernels (map kernel parts.now))) ends.now)) }
+        ensures { IfOk result
+            (λ rs. MakesAll self.old self.new rs
+            (λ κ. plain_at_end vars.now label
+            (terms_of (kernels (map kernel parts.now))) ends.now)) }
     {
         let mut all = Items::new(alloc);
         let mut first = label;
@@ -115,7 +121,9 @@ impl Builder {
         res: Ref,
     ) -> Result<Ref, NoMemory>
         requires { length ends.now ≡ length parts.now }
-        ensures { IfOk result (λ r. Makes self.old self.new r (λ κ. joined vars.now label (terms_of (kernels (map kernel parts.now))) ends.now res)) }
+        ensures { IfOk result
+            (λ r. Makes self.old self.new r
+            (λ κ. joined vars.now label (terms_of (kernels (map kernel parts.now))) ends.now res)) }
     {
         let all = self.at_end(alloc, vars, label, parts, ends)?;
         let labels = count_parts(parts, vars)?.labels;

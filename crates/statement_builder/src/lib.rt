@@ -1,4 +1,5 @@
-//! Builds the cells of statements: the surface starts a statement, and the depth goes on from its labels.
+//! Builds the cells of statements: the surface starts a statement, and the depth goes on from its
+//! labels.
 #![tactic(auto)]
 
 mod builder;

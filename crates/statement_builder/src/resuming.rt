@@ -49,14 +49,16 @@ impl Builder {
     ) -> Result<Side, NoMemory>
         requires types { AreSound vars.now }
         requires typed { IsTyped vars.now (plain cond.now) }
-        ensures { IfOk result (λ s. Gives Side self.old self.new s (λ κ. repeats vars.now κ (plain cond.now) end)) }
+        ensures { IfOk result
+            (λ s. Gives Side self.old self.new s (λ κ. repeats vars.now κ (plain cond.now) end)) }
     {
-        let cond = self.tested(alloc, vars, cond, end)?;
+        let cond = self.test_cond(alloc, vars, cond, end)?;
         let go = self.and_of(alloc, end, cond)?;
         Ok(Side { cond, go })
     }
 
-    // What the body of an immediate suspension goes on with is also where it starts from the wait label.
+    // What the body of an immediate suspension goes on with is also where it starts from the wait
+    // label.
     fn wake_body(
         &mut self,
         alloc: Global,
@@ -69,16 +71,19 @@ impl Builder {
         requires types { AreSound vars.now }
         requires over { IsOver vars.now self.old }
         requires sound { IsSound vars.now (term_of (kernel body.now)) }
-        ensures { IfOk result (λ r. Makes self.old self.new r (λ κ. woken_body vars.now κ first.label first.register (term_of (kernel body.now)) inside.label inside.go inside.step stay)) }
+        ensures { IfOk result
+            (λ r. Makes self.old self.new r
+            (λ κ. woken_body vars.now κ first.label first.register
+            (term_of (kernel body.now)) inside.label inside.go inside.step stay)) }
     {
         let go = self.wake(alloc, inside.label, inside.go, stay)?;
         let end = self.surface(alloc, vars, body, first, go, inside.step)?;
         Ok(end)
     }
 
-    /// The cells of a statement that goes on from its labels where `res` isn't 0, and the reference of where it ends. Control
-    /// moves only where `step` isn't 0, and labels stay where `stay` isn't 0. The labels of the statement and the registers of
-    /// its scopes begin at these numbers.
+    /// The cells of a statement that goes on from its labels where `res` isn't 0, and the reference
+    /// of where it ends. Control moves only where `step` isn't 0, and labels stay where `stay`
+    /// isn't 0. The labels of the statement and the registers of its scopes begin at these numbers.
     ///
     /// After an error the builder is to be dropped.
     #[cycle(depth)]
@@ -95,7 +100,10 @@ impl Builder {
         requires types { AreSound vars.now }
         requires over { IsOver vars.now self.old }
         requires sound { IsSound vars.now (term_of (kernel stmt.now)) }
-        ensures { IfOk result (λ r. Makes self.old self.new r (λ κ. plain_depth vars.now κ first.label first.register (term_of (kernel stmt.now)) res step stay)) }
+        ensures { IfOk result
+            (λ r. Makes self.old self.new r
+            (λ κ. plain_depth vars.now κ first.label first.register
+            (term_of (kernel stmt.now)) res step stay)) }
     {
         let labels = count(stmt, vars)?.labels;
         if labels == 0 {
@@ -133,7 +141,10 @@ impl Builder {
         requires sound { IsSound vars.now (term_of (kernel stmt.now)) }
         requires inside { plain_is_scope (kernel stmt.now) ≡ false }
         requires labels { labels ≡ labels_of (term_of (kernel stmt.now)) }
-        ensures { IfOk result (λ r. Makes self.old self.new r (λ κ. plain_resume vars.now κ first.label first.register (term_of (kernel stmt.now)) res step stay)) }
+        ensures { IfOk result
+            (λ r. Makes self.old self.new r
+            (λ κ. plain_resume vars.now κ first.label first.register
+            (term_of (kernel stmt.now)) res step stay)) }
     {
         match stmt {
             Stmt::Nothing => Ok(Ref::Lit(0)),
@@ -205,8 +216,14 @@ impl Builder {
         requires over { IsOver vars.now self.old }
         requires typed { IsTyped vars.now (plain cond.now) }
         requires sound { IsSound vars.now (term_of (kernel body.now)) }
-        requires labels { labels ≡ labels_of (guard_of guard.abort guard.weak guard.immediate (term_of (kernel body.now)) (plain cond.now)) }
-        ensures { IfOk result (λ r. Makes self.old self.new r (λ κ. plain_resume vars.now κ first.label first.register (guard_of guard.abort guard.weak guard.immediate (term_of (kernel body.now)) (plain cond.now)) res step stay)) }
+        requires labels { labels
+            ≡ labels_of (guard_of guard.abort guard.weak guard.immediate (term_of (kernel body.now))
+            (plain cond.now)) }
+        ensures { IfOk result
+            (λ r. Makes self.old self.new r
+            (λ κ. plain_resume vars.now κ first.label first.register
+            (guard_of guard.abort guard.weak guard.immediate (term_of (kernel body.now))
+            (plain cond.now)) res step stay)) }
     {
         if guard.abort {
             let begun = self.begin_abort(
@@ -249,8 +266,14 @@ impl Builder {
         requires over { IsOver vars.now self.old }
         requires typed { IsTyped vars.now (plain cond.now) }
         requires sound { IsSound vars.now (term_of (kernel body.now)) }
-        requires labels { labels ≡ labels_of (suspend guard.weak guard.immediate (term_of (kernel body.now)) (plain cond.now)) }
-        ensures { IfOk result (λ r. Makes self.old self.new r (λ κ. plain_resume vars.now κ first.label first.register (suspend guard.weak guard.immediate (term_of (kernel body.now)) (plain cond.now)) res step stay)) }
+        requires labels { labels
+            ≡ labels_of (suspend guard.weak guard.immediate (term_of (kernel body.now))
+            (plain cond.now)) }
+        ensures { IfOk result
+            (λ r. Makes self.old self.new r
+            (λ κ. plain_resume vars.now κ first.label first.register
+            (suspend guard.weak guard.immediate (term_of (kernel body.now))
+            (plain cond.now)) res step stay)) }
     {
         let begun = self.begin_suspend(
             alloc,
@@ -296,7 +319,10 @@ impl Builder {
         requires types { AreSound vars.now }
         requires over { IsOver vars.now self.old }
         requires sound { AllSound vars.now (terms_of (kernels (map kernel parts.now))) }
-        ensures { IfOk result (λ r. Makes self.old self.new r (λ κ. plain_resume_in_turn vars.now κ first.label first.register (terms_of (kernels (map kernel parts.now))) zero_ref res step stay)) }
+        ensures { IfOk result
+            (λ r. Makes self.old self.new r
+            (λ κ. plain_resume_in_turn vars.now κ first.label first.register
+            (terms_of (kernels (map kernel parts.now))) zero_ref res step stay)) }
     {
         let mut at = first;
         let mut end = Ref::Lit(0);
@@ -324,7 +350,10 @@ impl Builder {
         requires types { AreSound vars.now }
         requires over { IsOver vars.now self.old }
         requires sound { AllSound vars.now (terms_of (kernels (map kernel parts.now))) }
-        ensures made { IfOk result (λ rs. MakesAll self.old self.new rs (λ κ. plain_resume_each vars.now κ first.label first.register (terms_of (kernels (map kernel parts.now))) res step stay)) }
+        ensures made { IfOk result
+            (λ rs. MakesAll self.old self.new rs
+            (λ κ. plain_resume_each vars.now κ first.label first.register
+            (terms_of (kernels (map kernel parts.now))) res step stay)) }
         ensures count { IfOk result (λ rs. length rs ≡ length parts.now) }
     {
         let mut at = first;

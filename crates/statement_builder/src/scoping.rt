@@ -1,4 +1,5 @@
-//! Copies of the variables of scopes: they are opened with reserved value cells, and closed from the writes to them.
+//! Copies of the variables of scopes: they are opened with reserved value cells, and closed from
+//! the writes to them.
 
 ghost use Rattle.std.specs.Prelude.{◌≡◌, ◌+◌, ◌*◌, ◌<◌, ◌^◌, length, option_map, slice_get, slice_set, Some, true, IfOk};
 ghost use Rattle.quartz_expr.specs.Vars.{count_of, declared_at};
@@ -18,7 +19,8 @@ use statement_cells::Current;
 use std::alloc::Global;
 use std::mem;
 
-/// A scope whose copy isn't closed yet: the copy, whose registers begin at `first`, and what was current around it.
+/// A scope whose copy isn't closed yet: the copy, whose registers begin at `first`, and what was
+/// current around it.
 #[derive(Debug, Drop)]
 pub(crate) struct Scope {
     pub var: u32,
@@ -70,7 +72,8 @@ fn copies_in(variables: &[OpenVar], var: u32) -> u32
 fn begin_writes(alloc: Global, variables: &mut Vec<OpenVar>, var: u32) -> Result<OpenVar, NoMemory>
     requires { var < length variables.old.items }
     ensures before { IfOk result (λ o. slice_get variables.old.items var ≡ Some o) }
-    ensures after { IfOk result (λ o. variables.new.items ≡ slice_set variables.old.items var (fresh_open o)) }
+    ensures after { IfOk result
+        (λ o. variables.new.items ≡ slice_set variables.old.items var (fresh_open o)) }
 {
     let copies = plus(copies_in(variables, var), 1)?;
     let fresh = OpenVar {
@@ -86,7 +89,8 @@ fn begin_writes(alloc: Global, variables: &mut Vec<OpenVar>, var: u32) -> Result
 fn end_writes(variables: &mut Vec<OpenVar>, var: u32, outer: OpenVar) -> OpenVar
     requires { var < length variables.old.items }
     ensures before { slice_get variables.old.items var ≡ Some result }
-    ensures after { variables.new.items ≡ slice_set variables.old.items var (restored_open result outer) }
+    ensures after { variables.new.items
+        ≡ slice_set variables.old.items var (restored_open result outer) }
 {
     let restored = OpenVar {
         copies: copies_in(variables, var),
@@ -115,7 +119,8 @@ fn are_below(bound: usize, numbers: &[u32]) -> bool
     true
 }
 
-// Whether the copy of a scope can be closed over these variables and so many cells: its registers have numbers.
+// Whether the copy of a scope can be closed over these variables and so many cells: its registers
+// have numbers.
 fn can_close(vars: &[Var], cells: usize, scope: &Scope) -> bool
     ensures var { result ≡ true → scope.now.var < length vars.now }
     ensures values { result ≡ true → AreBelow cells scope.now.values }
@@ -163,8 +168,8 @@ impl Builder {
         })
     }
 
-    /// Closes the copy of a scope, and makes current again what was current around it. Where the numbers of its registers
-    /// don't fit it answers want of memory.
+    /// Closes the copy of a scope, and makes current again what was current around it. Where the
+    /// numbers of its registers don't fit it answers want of memory.
     pub(crate) fn close_scope(
         &mut self,
         alloc: Global,

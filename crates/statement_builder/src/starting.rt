@@ -37,8 +37,9 @@ impl Builder {
         Ok(Ref::Lit(0))
     }
 
-    /// The cells that start a statement where `go` isn't 0, and the reference of where it ends. Control comes to rest in the
-    /// statement only where `step` isn't 0. The labels of the statement and the registers of its scopes begin at these numbers.
+    /// The cells that start a statement where `go` isn't 0, and the reference of where it ends.
+    /// Control comes to rest in the statement only where `step` isn't 0. The labels of the
+    /// statement and the registers of its scopes begin at these numbers.
     ///
     /// After an error the builder is to be dropped.
     #[cycle(surface)]
@@ -54,7 +55,10 @@ impl Builder {
         requires types { AreSound vars.now }
         requires over { IsOver vars.now self.old }
         requires sound { IsSound vars.now (term_of (kernel stmt.now)) }
-        ensures { IfOk result (λ r. Makes self.old self.new r (λ κ. plain_surface vars.now κ first.label first.register (term_of (kernel stmt.now)) go step)) }
+        ensures { IfOk result
+            (λ r. Makes self.old self.new r
+            (λ κ. plain_surface vars.now κ first.label first.register
+            (term_of (kernel stmt.now)) go step)) }
     {
         if is_zero(go) {
             return Ok(Ref::Lit(0));
@@ -89,7 +93,10 @@ impl Builder {
         requires over { IsOver vars.now self.old }
         requires sound { IsSound vars.now (term_of (kernel stmt.now)) }
         requires inside { plain_is_scope (kernel stmt.now) ≡ false }
-        ensures { IfOk result (λ r. Makes self.old self.new r (λ κ. plain_start vars.now κ first.label first.register (term_of (kernel stmt.now)) go step)) }
+        ensures { IfOk result
+            (λ r. Makes self.old self.new r
+            (λ κ. plain_start vars.now κ first.label first.register
+            (term_of (kernel stmt.now)) go step)) }
     {
         match stmt {
             Stmt::Nothing => Ok(go),
@@ -177,7 +184,10 @@ impl Builder {
         requires types { AreSound vars.now }
         requires over { IsOver vars.now self.old }
         requires sound { AllSound vars.now (terms_of (kernels (map kernel parts.now))) }
-        ensures { IfOk result (λ r. Makes self.old self.new r (λ κ. plain_start_in_turn vars.now κ first.label first.register (terms_of (kernels (map kernel parts.now))) go step)) }
+        ensures { IfOk result
+            (λ r. Makes self.old self.new r
+            (λ κ. plain_start_in_turn vars.now κ first.label first.register
+            (terms_of (kernels (map kernel parts.now))) go step)) }
     {
         let mut at = first;
         let mut end = go;
@@ -202,7 +212,10 @@ impl Builder {
         requires types { AreSound vars.now }
         requires over { IsOver vars.now self.old }
         requires sound { AllSound vars.now (terms_of (kernels (map kernel parts.now))) }
-        ensures { IfOk result (λ rs. MakesAll self.old self.new rs (λ κ. plain_start_each vars.now κ first.label first.register (terms_of (kernels (map kernel parts.now))) go step)) }
+        ensures { IfOk result
+            (λ rs. MakesAll self.old self.new rs
+            (λ κ. plain_start_each vars.now κ first.label first.register
+            (terms_of (kernels (map kernel parts.now))) go step)) }
     {
         let mut at = first;
         let mut ends = Items::new(alloc);

@@ -32,7 +32,7 @@ pub(crate) struct Write<'a> {
 
 impl Builder {
     // The monitors of an expression's faults under a guard.
-    fn watched(
+    fn watch_faults(
         &mut self,
         alloc: Global,
         vars: &[Var],
@@ -41,7 +41,8 @@ impl Builder {
     ) -> Result<(), NoMemory>
         requires types { AreSound vars.now }
         requires typed { IsTyped vars.now (plain e.now) }
-        ensures { OnOk result (Does self.old self.new (λ κ. plain_watched vars.now κ (plain e.now) guard)) }
+        ensures { OnOk result
+            (Does self.old self.new (λ κ. plain_watched vars.now κ (plain e.now) guard)) }
     {
         if is_zero(guard) {
             return Ok(());
@@ -55,7 +56,9 @@ impl Builder {
     // The tree of an expression as a reference.
     fn cell_for(&mut self, alloc: Global, vars: &[Var], e: &Expr<u32>) -> Result<Ref, NoMemory>
         requires { IsTyped vars.now (plain e.now) }
-        ensures { IfOk result (λ r. Makes self.old self.new r (λ κ. cell_of (plain_tree_of vars.now κ (plain e.now)))) }
+        ensures { IfOk result
+            (λ r. Makes self.old self.new r
+            (λ κ. cell_of (plain_tree_of vars.now κ (plain e.now)))) }
     {
         let computed = tree_of(alloc, vars, self.copies.as_slice(), e)?;
         let made = self.cell_of(computed)?;
@@ -63,7 +66,7 @@ impl Builder {
     }
 
     /// A condition, and the monitors of its faults under a guard.
-    pub(crate) fn tested(
+    pub(crate) fn test_cond(
         &mut self,
         alloc: Global,
         vars: &[Var],
@@ -72,9 +75,10 @@ impl Builder {
     ) -> Result<Ref, NoMemory>
         requires types { AreSound vars.now }
         requires typed { IsTyped vars.now (plain cond.now) }
-        ensures { IfOk result (λ r. Makes self.old self.new r (λ κ. plain_tested vars.now κ (plain cond.now) guard)) }
+        ensures { IfOk result
+            (λ r. Makes self.old self.new r (λ κ. plain_tested vars.now κ (plain cond.now) guard)) }
     {
-        self.watched(alloc, vars, cond, guard)?;
+        self.watch_faults(alloc, vars, cond, guard)?;
         let made = self.cell_for(alloc, vars, cond)?;
         Ok(made)
     }
@@ -90,7 +94,11 @@ impl Builder {
         requires types { AreSound vars.now }
         requires index { HasTypedIndex vars.now (option_map plain write.index.now) }
         requires value { IsTyped vars.now (plain write.value.now) }
-        ensures { OnOk result (Does self.old self.new (λ κ. watch (target_tests vars.now κ (reference go) (option_map plain write.entry.index.now) ++ tests_of vars.now κ (reference go) (plain write.entry.value.now)))) }
+        ensures { OnOk result
+            (Does self.old self.new
+            (λ κ. watch (target_tests vars.now κ (reference go)
+            (option_map plain write.entry.index.now)
+            ++ tests_of vars.now κ (reference go) (plain write.entry.value.now)))) }
     {
         let copies = self.copies.as_slice();
         let mut tests = Vec::new(alloc);
@@ -111,7 +119,12 @@ impl Builder {
         requires types { AreSound vars.now }
         requires index { HasTypedIndex vars.now (option_map plain write.index.now) }
         requires value { IsTyped vars.now (plain write.value.now) }
-        ensures { OnOk result (Does self.old self.new (λ κ. watch (element_tests vars.now κ (reference go) write.entry.var (option_map plain write.entry.index.now) write.entry.target_place ++ range_tests vars.now κ (reference go) write.entry.var (plain write.entry.value.now) write.entry.place))) }
+        ensures { OnOk result
+            (Does self.old self.new
+            (λ κ. watch (element_tests vars.now κ (reference go) write.entry.var
+            (option_map plain write.entry.index.now) write.entry.target_place
+            ++ range_tests vars.now κ (reference go) write.entry.var
+            (plain write.entry.value.now) write.entry.place))) }
     {
         let copies = self.copies.as_slice();
         let mut tests = Vec::new(alloc);
@@ -147,7 +160,9 @@ impl Builder {
         index: &Option<Expr<u32>>,
     ) -> Result<Option<Ref>, NoMemory>
         requires { HasTypedIndex vars.now (option_map plain index.now) }
-        ensures { IfOk result (λ i. MakesIndex self.old self.new i (λ κ. index_of vars.now κ (option_map plain index.now))) }
+        ensures { IfOk result
+            (λ i. MakesIndex self.old self.new i
+            (λ κ. index_of vars.now κ (option_map plain index.now))) }
     {
         match index {
             None => Ok(None),
@@ -167,7 +182,9 @@ impl Builder {
         value: &Expr<u32>,
     ) -> Result<Ref, NoMemory>
         requires { IsTyped vars.now (plain value.now) }
-        ensures { IfOk result (λ r. Makes self.old self.new r (λ κ. cell_of (plain_fitted_tree vars.now κ var (plain value.now)))) }
+        ensures { IfOk result
+            (λ r. Makes self.old self.new r
+            (λ κ. cell_of (plain_fitted_tree vars.now κ var (plain value.now)))) }
     {
         let computed = fitted_tree(alloc, vars, self.copies.as_slice(), var, value)?;
         let made = self.cell_of(computed)?;
@@ -195,7 +212,11 @@ impl Builder {
         requires var { write.var < length vars.now }
         requires index { HasTypedIndex vars.now (option_map plain write.index.now) }
         requires value { IsTyped vars.now (plain write.value.now) }
-        ensures { OnOk result (Does self.old self.new (λ κ. written vars.now κ write.entry.var (option_map plain write.entry.index.now) (plain write.entry.value.now) write.entry.delayed write.entry.place write.entry.target_place go)) }
+        ensures { OnOk result
+            (Does self.old self.new
+            (λ κ. written vars.now κ write.entry.var (option_map plain write.entry.index.now)
+            (plain write.entry.value.now) write.entry.delayed
+            write.entry.place write.entry.target_place go)) }
     {
         self.watch_parts(alloc, vars, write, go)?;
         let index = self.index_for(alloc, vars, write.index)?;

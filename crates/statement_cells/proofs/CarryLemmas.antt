@@ -15,7 +15,8 @@ use Rattle.aif_cells.specs.Aif.{elements_of}
 use Rattle.aif_cells.specs.Solution.{IsSolution}
 use Rattle.aif_cells.specs.Worth.{Assignment, read}
 use Rattle.absence_reaction.specs.declared.copy.Shape.{Shape}
-use Rattle.absence_reaction.specs.Closing.{flag_of, is_memorized, one_if, pending_of, register_of, registers_each, shape_of}
+use Rattle.absence_reaction.specs.Closing.{flag_of, one_if, pending_of, register_of, registers_each, shape_of}
+use Rattle.quartz_tree.specs.Storage.{is_memorized}
 use Rattle.reincarnation.specs.declared.copy.ClosedRefs.{ClosedRefs}
 use Rattle.reincarnation.specs.declared.copy.Entered.{Entered}
 use Rattle.reincarnation.specs.Carrying.{Stores, carried, delayed_parts, parts_of, ref_in, value_part}

@@ -13,7 +13,8 @@ use Rattle.aif_cells.specs.Tree.{Tree, value}
 use Rattle.aif_cells.specs.Built.{Made as MadeCells, given_or_new, is_not_nought, join_alone, or_all}
 use Rattle.aif_cells.specs.Dependences.{DependsOn, cells_in}
 use Rattle.absence_reaction.specs.declared.copy.Shape.{Shape}
-use Rattle.absence_reaction.specs.Closing.{is_memorized, one_if}
+use Rattle.absence_reaction.specs.Closing.{one_if}
+use Rattle.quartz_tree.specs.Storage.{is_memorized}
 use Rattle.absence_reaction.specs.Earlier.{IsBelow}
 use Rattle.reincarnation.specs.declared.copy.ClosedRefs.{ClosedRefs}
 use Rattle.reincarnation.specs.declared.copy.Entered.{Entered}

@@ -18,7 +18,8 @@ use Rattle.aif_cells.specs.Solution.{IsSolution, MeetsBut}
 use Rattle.aif_cells.proofs.SolutionLemmas.{there}
 use Rattle.absence_reaction.specs.declared.copy.Shape.{Shape}
 use Rattle.absence_reaction.specs.declared.copy.VarCopy.{VarCopy}
-use Rattle.absence_reaction.specs.Closing.{closed_copy, flag_of, is_memorized, pending_of, register_of}
+use Rattle.absence_reaction.specs.Closing.{closed_copy, flag_of, pending_of, register_of}
+use Rattle.quartz_tree.specs.Storage.{is_memorized}
 use Rattle.absence_reaction.specs.Meaning.{GoesOnFrom, Keeps, is_among, raised}
 use Rattle.absence_reaction.proofs.CopyMeaning.{closing_keeps}
 use Rattle.reincarnation.specs.Entering.{numbers_from}

@@ -5,7 +5,8 @@ use Rattle.std.specs.Prelude.{is_some, if◌then◌else◌}
 use Rattle.quartz_expr.specs.Vars.{Vars, count_of}
 use Rattle.aif_cells.specs.Worth.{Assignment, read, truth}
 use Rattle.absence_reaction.specs.declared.copy.Shape.{Shape}
-use Rattle.absence_reaction.specs.Closing.{flag_of, is_memorized, pending_of, register_of}
+use Rattle.absence_reaction.specs.Closing.{flag_of, pending_of, register_of}
+use Rattle.quartz_tree.specs.Storage.{is_memorized}
 use Rattle.reincarnation.specs.declared.copy.ClosedRefs.{ClosedRefs}
 use Rattle.reincarnation.specs.declared.copy.Entered.{Entered}
 use Rattle.reincarnation.specs.Meaning.{carried_copy}

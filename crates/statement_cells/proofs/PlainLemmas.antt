@@ -9,7 +9,8 @@ use Rattle.quartz_expr.specs.Tick.{tick, tick_all}
 use Rattle.quartz_expr.specs.React.{sequence}
 use Rattle.quartz_expr.proofs.LawLemmas.{tick_fresh}
 use Rattle.absence_reaction.specs.declared.copy.Shape.{Shape}
-use Rattle.absence_reaction.specs.Closing.{is_memorized, register_of}
+use Rattle.absence_reaction.specs.Closing.{register_of}
+use Rattle.quartz_tree.specs.Storage.{is_memorized}
 use Rattle.statement_cells.specs.Labels.{labels, registers, scope_registers, shape_in}
 use Rattle.statement_cells.specs.Stands.{Marks, Registers, some, plain, plain_all, plain_kept, plain_store, kept_in, kept_from, store_in, at, at_in_turn, at_each}
 use Rattle.statement_cells.specs.Sound.{IsSound, AreSound}

@@ -10,7 +10,8 @@ use Rattle.quartz_expr.specs.Writes.{act_if}
 use Rattle.quartz_expr.specs.Resolve.{is_write_of, others, same_bool, writes_of}
 use Rattle.aif_cells.specs.declared.cells.Action.{Action}
 use Rattle.aif_cells.specs.Worth.{Assignment, holds, read, truth}
-use Rattle.absence_reaction.specs.Closing.{flag_of, is_memorized, pending_of, register_of}
+use Rattle.absence_reaction.specs.Closing.{flag_of, pending_of, register_of}
+use Rattle.quartz_tree.specs.Storage.{is_memorized}
 use Rattle.absence_reaction.specs.Meaning.{AreDistinctBelow, AreWritesOf, GoesOnFrom, IsCopyToClose, WriteAlike, act_of, acts_of, copy_acts, index_read}
 use Rattle.reincarnation.specs.Entering.{numbers_from}
 use Rattle.statement_cells.specs.Labels.{is_delayed, shape_in}

@@ -11,7 +11,8 @@ use Rattle.quartz_expr.specs.Resolve.{first_of_all, given_store, writes_of}
 use Rattle.aif_cells.specs.declared.reference.Ref.{Ref}
 use Rattle.aif_cells.specs.Worth.{Assignment, holds, number_at, read, truth}
 use Rattle.absence_reaction.specs.declared.copy.Shape.{Shape}
-use Rattle.absence_reaction.specs.Closing.{flag_of, is_memorized, one_if, pending_of, register_of, registers_each}
+use Rattle.absence_reaction.specs.Closing.{flag_of, one_if, pending_of, register_of, registers_each}
+use Rattle.quartz_tree.specs.Storage.{is_memorized}
 use Rattle.absence_reaction.specs.Meaning.{or_nought, pendings_of}
 use Rattle.reincarnation.specs.declared.copy.ClosedRefs.{ClosedRefs}
 use Rattle.statement_cells.specs.Labels.{is_delayed, scope_registers, shape_in}

@@ -14,7 +14,8 @@ use Rattle.aif_cells.specs.declared.reference.Ref.{Ref}
 use Rattle.aif_cells.specs.declared.cells.Register.{Register}
 use Rattle.aif_cells.specs.Worth.{holds}
 use Rattle.absence_reaction.specs.declared.copy.Shape.{Shape}
-use Rattle.absence_reaction.specs.Closing.{is_memorized, one_if, registers_each, register_of as register_at, flag_of, pending_of}
+use Rattle.absence_reaction.specs.Closing.{one_if, registers_each, register_of as register_at, flag_of, pending_of}
+use Rattle.quartz_tree.specs.Storage.{is_memorized}
 use Rattle.reincarnation.specs.declared.copy.ClosedRefs.{ClosedRefs}
 use Rattle.reincarnation.specs.declared.copy.Entered.{Entered}
 use Rattle.reincarnation.specs.Carrying.{Stores, with_next}

@@ -8,7 +8,8 @@ use Rattle.quartz_expr.specs.Terms.{Store, Term, nothing, pause, write, choose, 
 use Rattle.quartz_expr.specs.React.{sequence}
 use Rattle.aif_cells.specs.Worth.{holds}
 use Rattle.absence_reaction.specs.declared.copy.Shape.{Shape}
-use Rattle.absence_reaction.specs.Closing.{is_memorized, register_of, flag_of, pending_of}
+use Rattle.absence_reaction.specs.Closing.{register_of, flag_of, pending_of}
+use Rattle.quartz_tree.specs.Storage.{is_memorized}
 use Rattle.statement_cells.specs.Labels.{labels, labels_all, registers, scope_registers, shape_in}
 
 -- which labels are 1

@@ -17,7 +17,8 @@ use Rattle.aif_cells.specs.Worth.{Assignment, read, truth, worth}
 use Rattle.aif_cells.specs.Tree.{Tree}
 use Rattle.aif_cells.specs.Solution.{MeetsBut}
 use Rattle.absence_reaction.specs.declared.copy.Shape.{Shape}
-use Rattle.absence_reaction.specs.Closing.{register_of, flag_of, pending_of, is_memorized}
+use Rattle.absence_reaction.specs.Closing.{register_of, flag_of, pending_of}
+use Rattle.quartz_tree.specs.Storage.{is_memorized}
 use Rattle.absence_reaction.specs.Meaning.{act_of, raised, is_among}
 use Rattle.reincarnation.specs.declared.copy.ClosedRefs.{ClosedRefs}
 use Rattle.statement_cells.specs.Labels.{is_delayed, labels, registers, shape_in}

@@ -16,7 +16,8 @@ use Rattle.aif_cells.specs.Aif.{elements_of}
 use Rattle.aif_cells.specs.Tree.{value}
 use Rattle.aif_cells.specs.Built.{Defined, join}
 use Rattle.absence_reaction.specs.declared.copy.Shape.{Shape}
-use Rattle.absence_reaction.specs.Closing.{closed_copy, is_memorized, one_if, registers_each}
+use Rattle.absence_reaction.specs.Closing.{closed_copy, one_if, registers_each}
+use Rattle.quartz_tree.specs.Storage.{is_memorized}
 use Rattle.reincarnation.specs.declared.copy.ClosedRefs.{ClosedRefs}
 use Rattle.reincarnation.specs.declared.copy.Entered.{Entered}
 use Rattle.reincarnation.specs.Entering.{numbers_from}

@@ -1,3 +1,5 @@
+//! The copy of a variable that a statement reads and writes.
+
 use aif_cells::Ref;
 use sqlite_items::Items;
 

@@ -8,7 +8,8 @@ use Rattle.quartz_expr.specs.Vars.{Vars, count_of}
 use Rattle.quartz_expr.specs.Typed.{have_sound_types}
 use Rattle.aif_cells.specs.Aif.{elements_of}
 use Rattle.aif_cells.specs.Worth.{Assignment}
-use Rattle.absence_reaction.specs.Closing.{is_memorized, one_if}
+use Rattle.absence_reaction.specs.Closing.{one_if}
+use Rattle.quartz_tree.specs.Storage.{is_memorized}
 use Rattle.reincarnation.specs.declared.copy.ClosedRefs.{ClosedRefs}
 use Rattle.reincarnation.specs.declared.copy.Entered.{Entered}
 use Rattle.reincarnation.specs.Carrying.{Stores, carried, delayed_parts, parts_of, value_part}

@@ -1,3 +1,5 @@
+//! The module put together from what was built.
+
 ghost use Rattle.std.specs.Prelude.{◌≡◌, [], map, IfOk};
 ghost use Rattle.quartz_tree.specs.Kernel.{kernel};
 ghost use Rattle.quartz_expr.specs.Terms.{term_of};
@@ -43,7 +45,13 @@ pub(crate) fn assemble(
     paths: Items<Path>,
     registers: Items<Register>,
 ) -> Aif
-    ensures { result ≡ record builder.aif { name = name; inputs = inputs; outputs = outputs; paths = paths; registers = registers } }
+    ensures { result ≡ record builder.aif {
+      name = name;
+      inputs = inputs;
+      outputs = outputs;
+      paths = paths;
+      registers = registers;
+    } }
 {
     let mut aif = builder.aif;
     aif.name = name;

@@ -1,3 +1,5 @@
+//! What a module begins with: first copies of its variables, and reserved cells for its outputs.
+
 ghost use Rattle.std.specs.Prelude.{◌≡◌, ◌-◌, ◌<◌, ◌^◌, [], length, map, option_map, replicate, slice_get, slice_set, true, IfOk, OnOk, Some};
 ghost use Rattle.quartz_expr.specs.Typed.{have_sound_types};
 ghost use Rattle.reincarnation.specs.Entering.{numbers_from};
@@ -7,9 +9,10 @@ ghost use Rattle.aif_cells.specs.Aif.{elements_of, input_count};
 ghost use Rattle.quartz_expr.specs.Steps.{outputs_of};
 ghost use Rattle.statement_cells.specs.Whole.{after_flow as plain_after_flow, first_copies, first_copy, nothing_built};
 
-use crate::counting::{count_elements, plus};
+use crate::counting::plus;
 use crate::registers::shape_in;
 use aif_cells::{Aif, Made, Ref};
+use expression_cells::count_elements;
 use quartz_tree::{Flow, Name, NoMemory, Var};
 use reincarnation::{cell_refs, reserve};
 use sqlite_items::Items;
@@ -72,8 +75,8 @@ fn count_of(var: &Var) -> Result<u32, NoMemory>
     Ok(count)
 }
 
-/// The copies of variables at the start: the elements of inputs in order, nothing of outputs, and of
-/// locals their start values.
+/// The copies of variables at the start: the elements of inputs in order, nothing of outputs, and
+/// of locals their start values.
 pub(crate) fn first_copies(alloc: Global, vars: &[Var]) -> Result<Vec<Current>, NoMemory>
     ensures { IfOk result (λ cs. cs.items ≡ first_copies vars.now 0) }
 {
@@ -154,7 +157,8 @@ pub(crate) fn begin_outputs(
     requires over { IsOver vars.now builder.old }
     requires outputs { outputs.now ≡ outputs_of vars.now }
     ensures over { OnOk result (IsOver vars.now builder.new) }
-    ensures begins { IfOk result (λ os. BeginsAll vars.now builder.old outputs.now os.items builder.new) }
+    ensures begins { IfOk result
+        (λ os. BeginsAll vars.now builder.old outputs.now os.items builder.new) }
 {
     let mut copies = Vec::new(alloc);
     for output in outputs {

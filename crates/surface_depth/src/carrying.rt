@@ -1,3 +1,5 @@
+//! What the registers of outputs and scopes take for the next step.
+
 ghost use Rattle.std.specs.Prelude.{◌≡◌, ◌+◌, ◌<◌, ◌^◌, [], length, map, true, IfOk, OnOk};
 ghost use Rattle.quartz_expr.specs.Typed.{have_sound_types};
 ghost use Rattle.quartz_expr.specs.Terms.{term_of, terms_of};
@@ -40,7 +42,10 @@ fn carry_in(
 ) -> Result<(), NoMemory>
     requires types { have_sound_types aif.old.vars ≡ true }
     requires few { length aif.old.registers < 2 ^ 32 }
-    ensures carried { OnOk result (stores aif.new.registers aif.new.cells ≡ carried_in aif.old.vars var copies.now closed.now first (stores aif.old.registers aif.old.cells)) }
+    ensures carried { OnOk result
+        (stores aif.new.registers aif.new.cells
+        ≡ carried_in aif.old.vars var copies.now closed.now first
+        (stores aif.old.registers aif.old.cells)) }
     ensures rest { OnOk result (ChangesStores aif.old aif.new) }
     ensures count { OnOk result (length aif.new.registers ≡ length aif.old.registers) }
 {
@@ -63,7 +68,10 @@ pub(crate) fn take_outputs(
 ) -> Result<(), NoMemory>
     requires types { have_sound_types aif.old.vars ≡ true }
     requires few { length aif.old.registers < 2 ^ 32 }
-    ensures carried { OnOk result (stores aif.new.registers aif.new.cells ≡ outputs_taken aif.old.vars (map closed_output outputs.now) (stores aif.old.registers aif.old.cells)) }
+    ensures carried { OnOk result
+        (stores aif.new.registers aif.new.cells
+        ≡ outputs_taken aif.old.vars (map closed_output outputs.now)
+        (stores aif.old.registers aif.old.cells)) }
     ensures rest { OnOk result (ChangesStores aif.old aif.new) }
     ensures count { OnOk result (length aif.new.registers ≡ length aif.old.registers) }
 {
@@ -93,7 +101,10 @@ fn take_depths(
 ) -> Result<(), NoMemory>
     requires types { have_sound_types aif.old.vars ≡ true }
     requires few { length aif.old.registers < 2 ^ 32 }
-    ensures carried { OnOk result (stores aif.new.registers aif.new.cells ≡ depths_from aif.old.vars entered.now (map depth_copy depths.now) (stores aif.old.registers aif.old.cells)) }
+    ensures carried { OnOk result
+        (stores aif.new.registers aif.new.cells
+        ≡ depths_from aif.old.vars entered.now (map depth_copy depths.now)
+        (stores aif.old.registers aif.old.cells)) }
     ensures rest { OnOk result (ChangesStores aif.old aif.new) }
     ensures count { OnOk result (length aif.new.registers ≡ length aif.old.registers) }
 {
@@ -116,7 +127,10 @@ fn take_scope(
 ) -> Result<(), NoMemory>
     requires types { have_sound_types aif.old.vars ≡ true }
     requires few { length aif.old.registers < 2 ^ 32 }
-    ensures carried { OnOk result (stores aif.new.registers aif.new.cells ≡ scope_from aif.old.vars entered.now (map (map depth_copy) depths.now) registers first (stores aif.old.registers aif.old.cells)) }
+    ensures carried { OnOk result
+        (stores aif.new.registers aif.new.cells
+        ≡ scope_from aif.old.vars entered.now (map (map depth_copy) depths.now) registers first
+        (stores aif.old.registers aif.old.cells)) }
     ensures rest { OnOk result (ChangesStores aif.old aif.new) }
     ensures count { OnOk result (length aif.new.registers ≡ length aif.old.registers) }
 {
@@ -134,8 +148,8 @@ pub(crate) struct ScopeCopies {
     pub depths: Vec<Items<DepthCopy>>,
 }
 
-// The scopes around a statement, one in another, whose registers begin at the first one, where what is
-// inside has so many labels. It gives the first register of what is inside.
+// The scopes around a statement, one in another, whose registers begin at the first one, where what
+// is inside has so many labels. It gives the first register of what is inside.
 fn take_chain(
     alloc: Global,
     aif: &mut Aif,
@@ -147,8 +161,14 @@ fn take_chain(
     requires types { have_sound_types aif.old.vars ≡ true }
     requires few { length aif.old.registers < 2 ^ 32 }
     requires labels { labels ≡ plain_labels (term_of (kernel stmt.now)) }
-    ensures carried { IfOk result (λ v. scopes_of copies.now aif.old.vars v (term_of (unscoped (kernel stmt.now))) (stores aif.new.registers aif.new.cells) ≡ scopes_of copies.now aif.old.vars first (term_of (kernel stmt.now)) (stores aif.old.registers aif.old.cells)) }
-    ensures number { IfOk result (λ v. v + registers aif.old.vars (term_of (unscoped (kernel stmt.now))) ≡ first + registers aif.old.vars (term_of (kernel stmt.now))) }
+    ensures carried { IfOk result
+        (λ v. scopes_of copies.now aif.old.vars v (term_of (unscoped (kernel stmt.now)))
+        (stores aif.new.registers aif.new.cells)
+        ≡ scopes_of copies.now aif.old.vars first (term_of (kernel stmt.now))
+        (stores aif.old.registers aif.old.cells)) }
+    ensures number { IfOk result
+        (λ v. v + registers aif.old.vars (term_of (unscoped (kernel stmt.now)))
+        ≡ first + registers aif.old.vars (term_of (kernel stmt.now))) }
     ensures rest { OnOk result (ChangesStores aif.old aif.new) }
     ensures count { OnOk result (length aif.new.registers ≡ length aif.old.registers) }
 {
@@ -170,8 +190,8 @@ fn take_chain(
     Ok(first)
 }
 
-/// Registers of a statement's scopes take what their copies have, where they begin at the first one. It
-/// gives the number behind them.
+/// Registers of a statement's scopes take what their copies have, where they begin at the first
+/// one. It gives the number behind them.
 #[cycle(scopes)]
 #[tactic(auto, using(statement_builder::proofs::ChainLemmas::labels_unscoped))]
 pub(crate) fn take_scopes(
@@ -183,8 +203,12 @@ pub(crate) fn take_scopes(
 ) -> Result<u32, NoMemory>
     requires types { have_sound_types aif.old.vars ≡ true }
     requires few { length aif.old.registers < 2 ^ 32 }
-    ensures carried { OnOk result (stores aif.new.registers aif.new.cells ≡ scopes_of copies.now aif.old.vars first (term_of (kernel stmt.now)) (stores aif.old.registers aif.old.cells)) }
-    ensures number { IfOk result (λ v. v ≡ first + registers aif.old.vars (term_of (kernel stmt.now))) }
+    ensures carried { OnOk result
+        (stores aif.new.registers aif.new.cells
+        ≡ scopes_of copies.now aif.old.vars first (term_of (kernel stmt.now))
+        (stores aif.old.registers aif.old.cells)) }
+    ensures number { IfOk result
+        (λ v. v ≡ first + registers aif.old.vars (term_of (kernel stmt.now))) }
     ensures rest { OnOk result (ChangesStores aif.old aif.new) }
     ensures count { OnOk result (length aif.new.registers ≡ length aif.old.registers) }
 {
@@ -206,8 +230,12 @@ fn take_inside(
 ) -> Result<u32, NoMemory>
     requires types { have_sound_types aif.old.vars ≡ true }
     requires few { length aif.old.registers < 2 ^ 32 }
-    ensures carried { OnOk result (stores aif.new.registers aif.new.cells ≡ scopes_of copies.now aif.old.vars first (term_of (kernel stmt.now)) (stores aif.old.registers aif.old.cells)) }
-    ensures number { IfOk result (λ v. v ≡ first + registers aif.old.vars (term_of (kernel stmt.now))) }
+    ensures carried { OnOk result
+        (stores aif.new.registers aif.new.cells
+        ≡ scopes_of copies.now aif.old.vars first (term_of (kernel stmt.now))
+        (stores aif.old.registers aif.old.cells)) }
+    ensures number { IfOk result
+        (λ v. v ≡ first + registers aif.old.vars (term_of (kernel stmt.now))) }
     ensures rest { OnOk result (ChangesStores aif.old aif.new) }
     ensures count { OnOk result (length aif.new.registers ≡ length aif.old.registers) }
 {
@@ -264,8 +292,12 @@ fn take_all(
 ) -> Result<u32, NoMemory>
     requires types { have_sound_types aif.old.vars ≡ true }
     requires few { length aif.old.registers < 2 ^ 32 }
-    ensures carried { OnOk result (stores aif.new.registers aif.new.cells ≡ all_of copies.now aif.old.vars first (terms_of (kernels (map kernel stmts.now))) (stores aif.old.registers aif.old.cells)) }
-    ensures number { IfOk result (λ v. v ≡ first + registers_all aif.old.vars (terms_of (kernels (map kernel stmts.now)))) }
+    ensures carried { OnOk result
+        (stores aif.new.registers aif.new.cells
+        ≡ all_of copies.now aif.old.vars first (terms_of (kernels (map kernel stmts.now)))
+        (stores aif.old.registers aif.old.cells)) }
+    ensures number { IfOk result
+        (λ v. v ≡ first + registers_all aif.old.vars (terms_of (kernels (map kernel stmts.now)))) }
     ensures rest { OnOk result (ChangesStores aif.old aif.new) }
     ensures count { OnOk result (length aif.new.registers ≡ length aif.old.registers) }
 {
@@ -340,7 +372,8 @@ fn depths_by(
     copies: &[DepthCopy],
     registers: usize,
 ) -> Result<Vec<Items<DepthCopy>>, NoMemory>
-    ensures { IfOk result (λ v. map (map depth_copy) v.items ≡ depths_by 0 registers (map depth_copy copies.now)) }
+    ensures { IfOk result
+        (λ v. map (map depth_copy) v.items ≡ depths_by 0 registers (map depth_copy copies.now)) }
 {
     let mut lists = empty_lists(alloc, registers)?;
     for copy in copies {
@@ -356,8 +389,11 @@ pub(crate) fn copies_by_register(
     depths: &[DepthCopy],
     registers: usize,
 ) -> Result<ScopeCopies, NoMemory>
-    ensures entered { IfOk result (λ c. c.entered.items ≡ entered_by 0 registers (map entered_copy entered.now)) }
-    ensures depths { IfOk result (λ c. map (map depth_copy) c.depths.items ≡ depths_by 0 registers (map depth_copy depths.now)) }
+    ensures entered { IfOk result
+        (λ c. c.entered.items ≡ entered_by 0 registers (map entered_copy entered.now)) }
+    ensures depths { IfOk result
+        (λ c. map (map depth_copy) c.depths.items
+        ≡ depths_by 0 registers (map depth_copy depths.now)) }
 {
     let entered = entered_by(alloc, entered, registers)?;
     let depths = depths_by(alloc, depths, registers)?;

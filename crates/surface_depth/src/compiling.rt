@@ -1,3 +1,5 @@
+//! Compiling a module, and the test of its size.
+
 ghost use Rattle.std.specs.Prelude.{◌≡◌, ◌+◌, ◌<◌, false, length, nat_lt, true, IfOk, IsErrOf, OnOk};
 ghost use Rattle.quartz_tree.specs.Kernel.{kernel};
 ghost use Rattle.quartz_expr.specs.Steps.{outputs_of};
@@ -36,7 +38,8 @@ fn build_statement(
     requires types { AreSound vars.now }
     requires over { IsOver vars.now builder.old }
     requires sound { IsSound vars.now (term_of (kernel body.now)) }
-    ensures { OnOk result (BuildsBody vars.now builder.old first (term_of (kernel body.now)) builder.new) }
+    ensures { OnOk result
+        (BuildsBody vars.now builder.old first (term_of (kernel body.now)) builder.new) }
 {
     builder.surface(alloc, vars, body, first, Ref::Reg(0), Ref::Lit(1))?;
     builder.depth(
@@ -64,7 +67,9 @@ fn build(
     requires sizes { HasSizes resolved.now.vars (term_of (kernel resolved.now.body)) sizes }
     requires inputs { sizes.inputs < 65537 }
     ensures over { IfOk result (λ b. IsOver resolved.now.vars b.builder) }
-    ensures body { IfOk result (λ b. IsBody resolved.now.vars (term_of (kernel resolved.now.body)) b.builder b.outputs.items) }
+    ensures body { IfOk result
+        (λ b. IsBody resolved.now.vars
+        (term_of (kernel resolved.now.body)) b.builder b.outputs.items) }
 {
     let vars = resolved.vars.as_slice();
     let mut builder = fresh_builder(alloc, &resolved.name, vars)?;
@@ -78,7 +83,8 @@ fn build(
 
 // There are too many cells, registers and elements of inputs.
 fn is_too_large(aif: &Aif) -> bool
-    ensures { result ≡ nat_lt 65536 (length aif.now.cells + length aif.now.registers + aif.now.inputs) }
+    ensures { result ≡ nat_lt 65536
+        (length aif.now.cells + length aif.now.registers + aif.now.inputs) }
 {
     let size = aif.cells.len() as u128 + aif.registers.len() as u128 + aif.inputs as u128;
     size > GREATEST_SIZE
@@ -94,9 +100,13 @@ pub fn compile(alloc: Global, typed: &Typed) -> Result<Aif, CompileFault>
     ensures name { IfOk result (λ a. a.name ≡ typed.now.resolved.name) }
     ensures vars { IfOk result (λ a. a.vars ≡ typed.now.resolved.vars) }
     ensures inputs { IfOk result (λ a. a.inputs ≡ input_count typed.now.resolved.vars) }
-    ensures compiled { IfOk result (λ a. compiled_in a ≡ compiled typed.now.resolved.vars (term_of (kernel typed.now.resolved.body))) }
-    ensures fits { OnOk result (is_too_large typed.now.resolved.vars (term_of (kernel typed.now.resolved.body)) ≡ false) }
-    ensures too_large { IsErrOf result CompileFault.S8 → is_too_large typed.now.resolved.vars (term_of (kernel typed.now.resolved.body)) ≡ true }
+    ensures compiled { IfOk result
+        (λ a. compiled_in a ≡ compiled typed.now.resolved.vars
+        (term_of (kernel typed.now.resolved.body))) }
+    ensures fits { OnOk result
+        (is_too_large typed.now.resolved.vars (term_of (kernel typed.now.resolved.body)) ≡ false) }
+    ensures too_large { IsErrOf result CompileFault.S8
+        → is_too_large typed.now.resolved.vars (term_of (kernel typed.now.resolved.body)) ≡ true }
 {
     let resolved = typed.get();
     let vars = resolved.vars.as_slice();

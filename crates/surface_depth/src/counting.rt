@@ -1,11 +1,13 @@
+//! How many registers a variable has.
+
 ghost use Rattle.std.specs.Prelude.{◌≡◌, ◌+◌, ◌*◌, ◌<◌, ◌≤◌, true, IfOk};
 ghost use Rattle.quartz_expr.specs.Typed.{have_sound_types};
-ghost use Rattle.quartz_expr.specs.Vars.{count_of, length_of};
-ghost use Rattle.absence_reaction.specs.Closing.{is_memorized, registers_each as plain_registers_each};
+ghost use Rattle.absence_reaction.specs.Closing.{registers_each as plain_registers_each};
 ghost use Rattle.statement_cells.specs.Labels.{scope_registers, shape_in};
 ghost use Rattle.statement_cells.specs.Whole.{variable_registers};
 
-use quartz_tree::{NoMemory, Storage, Var};
+use expression_cells::count_elements;
+use quartz_tree::{NoMemory, Var};
 
 /// The sum, where it is a number of a label or a register.
 pub(crate) fn plus(a: u32, b: u32) -> Result<u32, NoMemory>
@@ -25,38 +27,10 @@ fn registers_each(vars: &[Var], var: u32) -> u32
     match vars.get(var as usize) {
         Some(var) => {
             let delayed = var.delayed as u32;
-            is_memorized(var.decl.storage) as u32 + (delayed + delayed)
+            var.decl.storage.is_memorized() as u32 + (delayed + delayed)
         }
         None => 1,
     }
-}
-
-fn is_memorized(storage: Storage) -> bool
-    ensures { result ≡ is_memorized storage }
-{
-    match storage {
-        Storage::Mem => true,
-        Storage::Event => false,
-    }
-}
-
-fn length_of(vars: &[Var], var: u32) -> Option<u128>
-    ensures { result ≡ length_of vars.now var }
-{
-    match vars.get(var as usize) {
-        Some(var) => var.decl.ty.len,
-        None => None,
-    }
-}
-
-/// How many elements a variable has.
-#[tactic(auto, using(quartz_expr::proofs::RangeLemmas::count_small))]
-pub(crate) fn count_elements(vars: &[Var], var: u32) -> u32
-    requires { have_sound_types vars.now ≡ true }
-    ensures count { result ≡ count_of vars.now var }
-    ensures small { result ≤ 64 }
-{
-    length_of(vars, var).unwrap_or(1) as u32
 }
 
 /// How many registers a variable has.

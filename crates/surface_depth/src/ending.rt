@@ -1,3 +1,5 @@
+//! Closing the copies of the outputs.
+
 ghost use Rattle.std.specs.Prelude.{◌≡◌, ◌+◌, ◌*◌, ◌<◌, ◌^◌, length, true, IfOk, OnOk};
 ghost use Rattle.quartz_expr.specs.Typed.{have_sound_types};
 ghost use Rattle.absence_reaction.specs.Closing.{AreBelow};
@@ -87,7 +89,11 @@ fn close_output(
 }
 
 fn refs_of(closed: Closed) -> ClosedRefs
-    ensures { result ≡ record { values = closed.values; flags = closed.flags; pending = closed.pending } }
+    ensures { result ≡ record {
+      values = closed.values;
+      flags = closed.flags;
+      pending = closed.pending;
+    } }
 {
     let Closed {
         values,
@@ -112,7 +118,8 @@ pub(crate) fn close_outputs(
     requires types { have_sound_types vars.now ≡ true }
     requires over { IsOver vars.now builder.old }
     ensures over { OnOk result (IsOver vars.now builder.new) }
-    ensures ends { IfOk result (λ cs. EndsAll vars.now builder.old outputs.now first cs.items builder.new) }
+    ensures ends { IfOk result
+        (λ cs. EndsAll vars.now builder.old outputs.now first cs.items builder.new) }
 {
     let mut closed = Vec::new(alloc);
     let mut register = first;

@@ -1,3 +1,5 @@
+//! The errors of compiling a module.
+
 ghost use Rattle.std.specs.Prelude.{◌≡◌};
 ghost use Rattle.surface_depth.specs.declared.fault.CompileFault.TheVariants.{NoMemory as no_memory};
 

@@ -1,3 +1,5 @@
+//! What comes behind the body: outputs are closed, and registers told what they take.
+
 ghost use Rattle.std.specs.Prelude.{◌≡◌, ◌+◌, ◌<◌, ◌≤◌, ◌^◌, length, map, true, IfOk, OnOk};
 ghost use Rattle.quartz_tree.specs.Kernel.{kernel};
 ghost use Rattle.quartz_expr.specs.Steps.{outputs_of};
@@ -49,14 +51,18 @@ fn close_and_label(
 ) -> Result<Labelled, NoMemory>
     requires types { have_sound_types resolved.now.vars ≡ true }
     requires over { IsOver resolved.now.vars body.old.builder }
-    requires body { IsBody resolved.now.vars (term_of (kernel resolved.now.body)) body.old.builder body.old.outputs.items }
+    requires body { IsBody resolved.now.vars
+        (term_of (kernel resolved.now.body)) body.old.builder body.old.outputs.items }
     requires outputs { outputs.now ≡ outputs_of resolved.now.vars }
     requires sizes { HasSizes resolved.now.vars (term_of (kernel resolved.now.body)) sizes }
     requires few { 1 + (sizes.labels + (sizes.outputs + sizes.scopes)) < 2 ^ 32 }
     ensures over { OnOk result (IsOver resolved.now.vars body.new.builder) }
-    ensures labelled { IfOk result (λ l. IsLabelled resolved.now.vars (term_of (kernel resolved.now.body)) body.new.builder l.closed.items l.registers) }
+    ensures labelled { IfOk result
+        (λ l. IsLabelled resolved.now.vars
+        (term_of (kernel resolved.now.body)) body.new.builder l.closed.items l.registers) }
     ensures outputs { OnOk result (body.new.outputs ≡ body.old.outputs) }
-    ensures count { IfOk result (λ l. length l.registers ≡ 1 + (sizes.labels + (sizes.outputs + sizes.scopes))) }
+    ensures count { IfOk result
+        (λ l. length l.registers ≡ 1 + (sizes.labels + (sizes.outputs + sizes.scopes))) }
 {
     let vars = resolved.vars.as_slice();
     let first = plus(1, sizes.labels)?;
@@ -72,8 +78,8 @@ fn close_and_label(
     Ok(Labelled { closed, registers })
 }
 
-/// The module before its registers of outputs and scopes are told what they take, and the copies of its
-/// scopes.
+/// The module before its registers of outputs and scopes are told what they take, and the copies of
+/// its scopes.
 #[derive(Debug, Drop)]
 struct Assembled {
     aif: Aif,
@@ -90,9 +96,15 @@ fn put_together(
     inputs: u32,
 ) -> Result<Assembled, NoMemory>
     requires { IsOver resolved.now.vars body.builder }
-    ensures aif { IfOk result (λ a. IsAssembled resolved.now.vars (term_of (kernel resolved.now.body)) body.builder body.outputs.items registers a.aif) }
-    ensures entered { IfOk result (λ a. a.copies.entered.items ≡ entered_by 0 (length registers) (map entered_copy body.builder.entered)) }
-    ensures depths { IfOk result (λ a. map (map depth_copy) a.copies.depths.items ≡ depths_by 0 (length registers) (map depth_copy body.builder.depths)) }
+    ensures aif { IfOk result
+        (λ a. IsAssembled resolved.now.vars
+        (term_of (kernel resolved.now.body)) body.builder body.outputs.items registers a.aif) }
+    ensures entered { IfOk result
+        (λ a. a.copies.entered.items
+        ≡ entered_by 0 (length registers) (map entered_copy body.builder.entered)) }
+    ensures depths { IfOk result
+        (λ a. map (map depth_copy) a.copies.depths.items
+        ≡ depths_by 0 (length registers) (map depth_copy body.builder.depths)) }
     ensures name { IfOk result (λ a. a.aif.name ≡ resolved.now.name) }
     ensures inputs { IfOk result (λ a. a.aif.inputs ≡ inputs) }
 {
@@ -110,7 +122,8 @@ fn put_together(
     Ok(Assembled { aif, copies })
 }
 
-/// Finishes a module whose body is built: closes the outputs, and tells the registers what they take.
+/// Finishes a module whose body is built: closes the outputs, and tells the registers what they
+/// take.
 pub(crate) fn finish(
     alloc: Global,
     resolved: &Resolved,
@@ -120,14 +133,16 @@ pub(crate) fn finish(
 ) -> Result<Aif, NoMemory>
     requires types { have_sound_types resolved.now.vars ≡ true }
     requires over { IsOver resolved.now.vars body.builder }
-    requires body { IsBody resolved.now.vars (term_of (kernel resolved.now.body)) body.builder body.outputs.items }
+    requires body { IsBody resolved.now.vars
+        (term_of (kernel resolved.now.body)) body.builder body.outputs.items }
     requires outputs { outputs.now ≡ outputs_of resolved.now.vars }
     requires sizes { HasSizes resolved.now.vars (term_of (kernel resolved.now.body)) sizes }
     requires few { 1 + (sizes.labels + (sizes.outputs + sizes.scopes)) < 2 ^ 32 }
     ensures name { IfOk result (λ a. a.name ≡ resolved.now.name) }
     ensures vars { IfOk result (λ a. a.vars ≡ resolved.now.vars) }
     ensures inputs { IfOk result (λ a. a.inputs ≡ input_count resolved.now.vars) }
-    ensures compiled { IfOk result (λ a. compiled_in a ≡ compiled resolved.now.vars (term_of (kernel resolved.now.body))) }
+    ensures compiled { IfOk result
+        (λ a. compiled_in a ≡ compiled resolved.now.vars (term_of (kernel resolved.now.body))) }
 {
     let mut body = body;
     let Labelled { closed, registers } = close_and_label(

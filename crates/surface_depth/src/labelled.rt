@@ -1,3 +1,5 @@
+//! The registers of labels, told what they take by the entries of a builder.
+
 ghost use Rattle.std.specs.Prelude.{◌≡◌, ◌+◌, ◌<◌, ◌≤◌, ◌^◌, length, OnOk};
 ghost use Rattle.surface_depth.specs.Labels.{TakesLabels};
 
@@ -18,7 +20,8 @@ pub(crate) fn label_registers(
     requires room { 1 + labels ≤ length registers.old }
     requires few { length registers.old < 2 ^ 32 }
     ensures count { OnOk result (length registers.new ≡ length registers.old) }
-    ensures taken { OnOk result (TakesLabels builder.old registers.old labels builder.new registers.new) }
+    ensures taken { OnOk result
+        (TakesLabels builder.old registers.old labels builder.new registers.new) }
 {
     let entered = by_label(alloc, builder.entries.as_slice(), labels)?;
     let stays = by_label(alloc, builder.stays.as_slice(), labels)?;

@@ -1,3 +1,5 @@
+//! What a label takes: where it is entered, and where it stays.
+
 ghost use Rattle.std.specs.Prelude.{◌≡◌, ℕ, ◌+◌, ◌<◌, ◌≤◌, ◌^◌, ◌++◌, List, [], ◌∷◌, length, map, replicate, slice_index_or, IfOk, OnOk};
 ghost use Rattle.aif_cells.specs.Built.{all_defined, new};
 ghost use Rattle.aif_cells.specs.Tree.{tree, two, value};
@@ -23,7 +25,10 @@ fn and_label(
     label: u32,
     under: Ref,
 ) -> Result<Ref, NoMemory>
-    ensures { IfOk result (λ r. record { ref = r; cells = all_defined cells.new } ≡ new (two TreeTwo.And (value (Ref.Reg label)) (value under)) nowhere (all_defined cells.old)) }
+    ensures { IfOk result
+        (λ r. record { ref = r; cells = all_defined cells.new }
+        ≡ new (two TreeTwo.And (value (Ref.Reg label)) (value under)) nowhere
+        (all_defined cells.old)) }
 {
     let left = Box::new(alloc, Tree::Value(Ref::Reg(label)))?;
     let right = Box::new(alloc, Tree::Value(under))?;
@@ -33,7 +38,9 @@ fn and_label(
 
 // A label that is 1 and stays.
 fn stays_in(alloc: Global, cells: &mut Items<Cell>, label: u32, under: Ref) -> Result<Ref, NoMemory>
-    ensures { IfOk result (λ r. record { ref = r; cells = all_defined cells.new } ≡ stays_in label under (all_defined cells.old)) }
+    ensures { IfOk result
+        (λ r. record { ref = r; cells = all_defined cells.new }
+        ≡ stays_in label under (all_defined cells.old)) }
 {
     match under {
         Ref::Lit(0) => Ok(Ref::Lit(0)),
@@ -63,8 +70,12 @@ fn push_staying(
     stays: &[Ref],
     trees: &mut Vec<Tree>,
 ) -> Result<(), NoMemory>
-    ensures trees { OnOk result (map tree trees.new.items ≡ map tree trees.old.items ++ map value (staying_in label stays.now (all_defined cells.old)).refs) }
-    ensures cells { OnOk result (all_defined cells.new ≡ (staying_in label stays.now (all_defined cells.old)).cells) }
+    ensures trees { OnOk result
+        (map tree trees.new.items
+        ≡ map tree trees.old.items
+        ++ map value (staying_in label stays.now (all_defined cells.old)).refs) }
+    ensures cells { OnOk result
+        (all_defined cells.new ≡ (staying_in label stays.now (all_defined cells.old)).cells) }
 {
     for under in stays {
         let staying = stays_in(alloc, cells, label, *under)?;
@@ -102,7 +113,9 @@ fn take_label(
 ) -> Result<(), NoMemory>
     requires { label < length registers.old }
     ensures count { OnOk result (length registers.new ≡ length registers.old) }
-    ensures taken { OnOk result (stores registers.new cells.new ≡ label_in label entered.now stays.now (stores registers.old cells.old)) }
+    ensures taken { OnOk result
+        (stores registers.new cells.new
+        ≡ label_in label entered.now stays.now (stores registers.old cells.old)) }
 {
     let mut trees = values(alloc, entered)?;
     push_staying(alloc, cells, label, stays, &mut trees)?;
@@ -124,7 +137,9 @@ pub(crate) fn take_labels(
     requires room { 1 + length entered.now ≤ length registers.old }
     requires few { length registers.old < 2 ^ 32 }
     ensures count { OnOk result (length registers.new ≡ length registers.old) }
-    ensures taken { OnOk result (stores registers.new cells.new ≡ labels_in 1 entered.now stays.now (stores registers.old cells.old)) }
+    ensures taken { OnOk result
+        (stores registers.new cells.new
+        ≡ labels_in 1 entered.now stays.now (stores registers.old cells.old)) }
 {
     for (number, entered) in entered.iter().enumerate() {
         let label = 1 + number as u32;
@@ -137,7 +152,9 @@ pub(crate) fn take_labels(
 // One reference more of a label.
 #[tactic(auto, using(crate::proofs::LabelLemmas::label_more, crate::proofs::LabelLemmas::label_none))]
 fn push_under(lists: &mut Vec<Items<Ref>>, label: u32, under: Ref) -> Result<(), NoMemory>
-    ensures { OnOk result ((n : ℕ) (es : List PlainEntry) → lists.old.items ≡ by_label 1 n es → lists.new.items ≡ by_label 1 n (es ++ record { label = label; under = under } ∷ [])) }
+    ensures { OnOk result
+        ((n : ℕ) (es : List PlainEntry) → lists.old.items ≡ by_label 1 n es
+        → lists.new.items ≡ by_label 1 n (es ++ record { label = label; under = under } ∷ [])) }
 {
     match label.checked_sub(1) {
         Some(at) => {

@@ -1,3 +1,5 @@
+//! Lists by number.
+
 ghost use Rattle.std.specs.Prelude.{◌≡◌, [], replicate, IfOk, OnOk};
 ghost use Rattle.surface_depth.specs.Lists.{pushed};
 

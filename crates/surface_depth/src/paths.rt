@@ -1,3 +1,5 @@
+//! The paths of labels: the way from the body to each.
+
 ghost use Rattle.std.specs.Prelude.{◌≡◌, ◌++◌, [], ◌∷◌, length, map, take, IfOk, OnOk};
 ghost use Rattle.quartz_tree.specs.Kernel.{kernel, kernels};
 ghost use Rattle.quartz_expr.specs.Terms.{term_of, terms_of};
@@ -10,13 +12,15 @@ use quartz_tree::{NoMemory, Stmt};
 use sqlite_items::Items;
 use std::alloc::Global;
 
-/// A step on the way from the body to a label: whether the statement is a parallel, and which of its
-/// parts it goes to.
+/// A step on the way from the body to a label: whether the statement is a parallel, and which of
+/// its parts it goes to.
 type Step = (bool, u32);
 
 // Goes through the scopes around a statement, one in another.
 fn enter_scopes<'s>(stmt: &'s Stmt, front: &mut Vec<Step>) -> Result<&'s Stmt, NoMemory>
-    ensures paths { IfOk result (λ s. paths front.new.items (term_of (kernel s.now)) ≡ paths front.old.items (term_of (kernel stmt.now))) }
+    ensures paths { IfOk result
+        (λ s. paths front.new.items (term_of (kernel s.now))
+        ≡ paths front.old.items (term_of (kernel stmt.now))) }
     ensures no_deeper { IfOk result (λ s. IsNoDeeper s.now stmt.now) }
     ensures front { OnOk result (take (length front.old.items) front.new.items ≡ front.old.items) }
 {
@@ -46,7 +50,9 @@ pub(crate) fn push_paths(
     found: &mut Items<Path>,
 ) -> Result<(), NoMemory>
     ensures front { OnOk result (front.new.items ≡ front.old.items) }
-    ensures paths { OnOk result (map steps_of found.new ≡ map steps_of found.old ++ paths front.old.items (term_of (kernel stmt.now))) }
+    ensures paths { OnOk result
+        (map steps_of found.new
+        ≡ map steps_of found.old ++ paths front.old.items (term_of (kernel stmt.now))) }
 {
     let way = front.len();
     let inner = enter_scopes(stmt, front)?;
@@ -64,7 +70,9 @@ fn push_inside(
     found: &mut Items<Path>,
 ) -> Result<(), NoMemory>
     ensures front { OnOk result (front.new.items ≡ front.old.items) }
-    ensures paths { OnOk result (map steps_of found.new ≡ map steps_of found.old ++ paths front.old.items (term_of (kernel stmt.now))) }
+    ensures paths { OnOk result
+        (map steps_of found.new
+        ≡ map steps_of found.old ++ paths front.old.items (term_of (kernel stmt.now))) }
 {
     match stmt {
         Stmt::Nothing => Ok(()),
@@ -106,7 +114,9 @@ fn push_wait(
     found: &mut Items<Path>,
 ) -> Result<(), NoMemory>
     ensures front { OnOk result (front.new.items ≡ front.old.items) }
-    ensures paths { OnOk result (map steps_of found.new ≡ map steps_of found.old ++ wait_paths abort immediate front.old.items) }
+    ensures paths { OnOk result
+        (map steps_of found.new
+        ≡ map steps_of found.old ++ wait_paths abort immediate front.old.items) }
 {
     if abort || !immediate {
         return Ok(());
@@ -127,7 +137,10 @@ fn push_part(
     found: &mut Items<Path>,
 ) -> Result<(), NoMemory>
     ensures front { OnOk result (front.new.items ≡ front.old.items) }
-    ensures paths { OnOk result (map steps_of found.new ≡ map steps_of found.old ++ paths (front.old.items ++ step ∷ []) (term_of (kernel part.now))) }
+    ensures paths { OnOk result
+        (map steps_of found.new
+        ≡ map steps_of found.old
+        ++ paths (front.old.items ++ step ∷ []) (term_of (kernel part.now))) }
 {
     front.push(step)?;
     push_paths(alloc, part, front, found)?;
@@ -144,7 +157,10 @@ fn push_parts(
     found: &mut Items<Path>,
 ) -> Result<(), NoMemory>
     ensures front { OnOk result (front.new.items ≡ front.old.items) }
-    ensures paths { OnOk result (map steps_of found.new ≡ map steps_of found.old ++ paths_all front.old.items parallel 0 (terms_of (kernels (map kernel parts.now)))) }
+    ensures paths { OnOk result
+        (map steps_of found.new
+        ≡ map steps_of found.old
+        ++ paths_all front.old.items parallel 0 (terms_of (kernels (map kernel parts.now)))) }
 {
     for (number, part) in parts.iter().enumerate() {
         let Ok(number) = u32::try_from(number) else {

@@ -1,14 +1,17 @@
+//! The registers of a module, with their initial values.
+
 ghost use Rattle.std.specs.Prelude.{◌≡◌, ◌+◌, ◌<◌, ◌^◌, ◌++◌, [], ◌∷◌, length, pos, replicate, true, IfOk, OnOk};
 ghost use Rattle.quartz_expr.specs.Steps.{outputs_of};
 ghost use Rattle.quartz_expr.specs.Typed.{have_sound_types};
-ghost use Rattle.absence_reaction.specs.Closing.{is_memorized, one_if};
+ghost use Rattle.absence_reaction.specs.Closing.{one_if};
+ghost use Rattle.quartz_tree.specs.Storage.{is_memorized};
 ghost use Rattle.statement_cells.specs.Labels.{shape_in};
 ghost use Rattle.statement_cells.specs.Whole.{element_registers, outputs_registers, register_of, repeated, variable_registers};
 ghost use Rattle.quartz_expr.specs.Vars.{count_of};
 
-use crate::counting::count_elements;
 use absence_reaction::Shape;
 use aif_cells::{Ref, Register};
+use expression_cells::count_elements;
 use quartz_tree::{Flow, NoMemory, Place, Storage, Var};
 use sqlite_items::Items;
 use std::alloc::Global;
@@ -67,20 +70,11 @@ fn push_many(registers: &mut Items<Register>, count: u32, start: i64) -> Result<
     Ok(())
 }
 
-fn is_memorized(storage: Storage) -> bool
-    ensures { result ≡ is_memorized storage }
-{
-    match storage {
-        Storage::Mem => true,
-        Storage::Event => false,
-    }
-}
-
 // How many registers keep an element's value.
 fn values_of(shape: Shape) -> u32
     ensures { result ≡ one_if (is_memorized shape.storage) }
 {
-    if is_memorized(shape.storage) { 1 } else { 0 }
+    if shape.storage.is_memorized() { 1 } else { 0 }
 }
 
 // How many registers keep what is pending of an element.
@@ -101,7 +95,8 @@ fn push_element(registers: &mut Items<Register>, shape: Shape) -> Result<(), NoM
 
 // The registers of so many elements behind the others.
 fn push_elements(registers: &mut Items<Register>, count: u32, shape: Shape) -> Result<(), NoMemory>
-    ensures { OnOk result (registers.new ≡ registers.old ++ repeated count (element_registers shape)) }
+    ensures { OnOk result
+        (registers.new ≡ registers.old ++ repeated count (element_registers shape)) }
 {
     for _element in 0..count {
         push_element(registers, shape)?;
@@ -116,7 +111,8 @@ fn push_outputs(
     outputs: &[u32],
 ) -> Result<(), NoMemory>
     requires { have_sound_types vars.now ≡ true }
-    ensures { OnOk result (registers.new ≡ registers.old ++ outputs_registers vars.now outputs.now) }
+    ensures { OnOk result
+        (registers.new ≡ registers.old ++ outputs_registers vars.now outputs.now) }
 {
     for output in outputs {
         let count = count_elements(vars, *output);
@@ -125,8 +121,8 @@ fn push_outputs(
     Ok(())
 }
 
-/// The registers before they are told what they take: the start flag, the labels, those of outputs and
-/// those of scopes.
+/// The registers before they are told what they take: the start flag, the labels, those of outputs
+/// and those of scopes.
 pub(crate) fn first_registers(
     alloc: Global,
     vars: &[Var],
@@ -135,7 +131,10 @@ pub(crate) fn first_registers(
     scopes: u32,
 ) -> Result<Items<Register>, NoMemory>
     requires { have_sound_types vars.now ≡ true }
-    ensures { IfOk result (λ rs. rs ≡ register_of (pos 1) ∷ (replicate labels (register_of (pos 0)) ++ (outputs_registers vars.now outputs.now ++ replicate scopes (register_of (pos 0))))) }
+    ensures { IfOk result
+        (λ rs. rs ≡ register_of (pos 1)
+        ∷ (replicate labels (register_of (pos 0))
+        ++ (outputs_registers vars.now outputs.now ++ replicate scopes (register_of (pos 0))))) }
 {
     let mut registers = Items::from_slice(alloc, &[register_of(1)])?;
     push_many(&mut registers, labels, 0)?;

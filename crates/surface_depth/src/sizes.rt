@@ -1,3 +1,5 @@
+//! How many inputs, labels and registers a module has.
+
 ghost use Rattle.std.specs.Prelude.{◌≡◌, ◌+◌, true, IfOk};
 ghost use Rattle.quartz_expr.specs.Typed.{have_sound_types};
 ghost use Rattle.quartz_expr.specs.Terms.{term_of};
@@ -73,7 +75,8 @@ pub(crate) fn measure(vars: &[Var], body: &Stmt, outputs: &[u32]) -> Result<Size
 }
 
 impl Sizes {
-    /// How many registers there are: the start flag, the labels, and those of outputs and of scopes.
+    /// How many registers there are: the start flag, the labels, and those of outputs and of
+    /// scopes.
     pub(crate) fn registers(self) -> u64
         ensures { result ≡ 1 + (self.labels + (self.outputs + self.scopes)) }
     {

@@ -27,15 +27,14 @@ use Rattle.write_conflicts.specs.declared.pairs.Pairs.{Pairs}
 use Rattle.loose_runs.specs.Laws.{FlaggedAt, IsFlagged}
 use Rattle.loose_runs.specs.Reached.{Reached, at_start, by_step}
 use Rattle.loose_runs.proofs.FaultLemmas.{least_in}
-use Rattle.loose_runs.proofs.RunLooseLemmas.{loose_meets_conflict, unflagged_variable_has_no_conflict}
+use Rattle.loose_runs.proofs.RunLooseLemmas.{loose_meets_conflict, unflagged_has_no_conflict}
 use Rattle.quartz_build.specs.Broken.{IsAccepted, term_in}
 use Rattle.quartz_build.specs.Parts.{IsAifOf}
 use Rattle.text_laws.specs.Conflicts.{StoriesEndFlagged, StrictStepsHaveNoConflict, StrictStoriesHaveNoConflict, UntoldHasNoConflict}
-use Rattle.text_laws.proofs.PlaceLemmas.{declared_apart}
 use Rattle.text_laws.proofs.VerdictLemmas.{well_typed_is_sound}
 use Rattle.quartz_build.proofs.BuildLemmas.{same_scene, same_actions}
 
--- ---- variables that aren't told to be loose
+-- ---- places where no variable is told to be loose
 
 told_loose : (m : ModuleTree) (a : Aif) (told : Pairs) (x : ℕ) → IsAifOf m a → ArePairsOf a told → x < length (resolved_vars m) → IsFlagged (resolved_vars m) (term_in m) x → slice_get told.loose x ≡ Some true
 told_loose m a told x i p less f =
@@ -43,10 +42,9 @@ told_loose m a told x i p less f =
     (p.flagged x known).1 (subst₂ (λ (s : Scene) (acts : List Action). IsLooseVar s acts x) (sym (same_scene m a i)) (sym (same_actions m a i)) f)
 
 pub untold_has_no_conflict : UntoldHasNoConflict
-untold_has_no_conflict text m a told x s ins outs next fs accepted i p less untold run =
-    unflagged_variable_has_no_conflict (resolved_vars m) (resolved_body m) s ins outs next fs x
-    (well_typed_is_sound text m accepted.typed) accepted.good.acyclic run (declared_apart text m accepted.typed.read) less
-    (λ f. untold (told_loose m a told x i p less f))
+untold_has_no_conflict text m a told p s ins outs next fs accepted i pairs untold run =
+    unflagged_has_no_conflict (resolved_vars m) (resolved_body m) s ins outs next fs p (well_typed_is_sound text m accepted.typed) accepted.good.acyclic run
+    (λ x less at f. untold x less at (told_loose m a told x i pairs less f))
 
 -- ---- stories
 

@@ -1,6 +1,5 @@
 pub mod PickLemmas
-pub mod RisingLemmas
-pub mod PlaceLemmas
+pub mod CountLemmas
 pub mod VerdictLemmas
 pub mod StoryLemmas
 pub mod ConflictLemmas

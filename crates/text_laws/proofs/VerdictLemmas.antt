@@ -19,7 +19,7 @@ use Rattle.quartz_build.specs.Broken.{compiled_of, unbuilt}
 use Rattle.quartz_build.specs.Parts.{IsAifOf}
 use Rattle.quartz_build.proofs.OneLemmas.{not_refused, one_module, one_refusal}
 use Rattle.text_laws.specs.Verdicts.{CellsHaveOneText, TextsHaveOneVerdict, WellTypedModulesAreSound}
-use Rattle.text_laws.proofs.PlaceLemmas.{variables_few}
+use Rattle.text_laws.proofs.CountLemmas.{variables_few}
 
 pub one_verdict : TextsHaveOneVerdict
 one_verdict strict text = record { one_refusal = one_refusal strict text; one_module = one_module strict strict text; not_both = not_refused strict text }

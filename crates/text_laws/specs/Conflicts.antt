@@ -1,10 +1,11 @@
 -- What loose pairs of writes say of the runs of a text.
 use Rattle.std.specs.Prelude.{◌≡◌, ℕ, ◌<◌, ℤ, true, false, List, length, Contains, slice_get, Some}
+use Rattle.quartz_tree.specs.declared.place.Place.{Place}
 use Rattle.quartz_tree.specs.declared.fault.Fault.{Fault}
 use Rattle.quartz_tree.specs.declared.fault.Kind.TheVariants.{Conflict}
 use Rattle.quartz_tree.specs.Surfaces.{ModuleTree}
 use Rattle.quartz_expr.specs.Steps.{State}
-use Rattle.quartz_expr.specs.Vars.{declared_at}
+use Rattle.quartz_expr.specs.Vars.{Vars, declared_at}
 use Rattle.quartz_names.specs.Resolving.{resolved_body, resolved_vars}
 use Rattle.aif_cells.specs.declared.aif.Aif.{Aif}
 use Rattle.trace_io.specs.Story.{Story, fault}
@@ -14,13 +15,17 @@ use Rattle.loose_runs.specs.Laws.{FlaggedAt, IsRunStep}
 use Rattle.quartz_build.specs.Broken.{IsAccepted, term_in}
 use Rattle.quartz_build.specs.Parts.{IsAifOf}
 
--- a variable that isn't told to be loose has no conflict in any step of any run
-abbrev pub UntoldHasNoConflict : Type 0
-UntoldHasNoConflict = (text : List ℕ) (m : ModuleTree) (aif : Aif) (told : Pairs) (x : ℕ) (s : State) (ins outs : List (List ℤ)) (next : State) (fs : List Fault)
-    → IsAccepted false text m → IsAifOf m aif → ArePairsOf aif told → x < length (resolved_vars m) → ¬ (slice_get told.loose x ≡ Some true)
-    → IsRunStep (resolved_vars m) (resolved_body m) s ins outs next fs → ¬ Contains fs (record { place = declared_at (resolved_vars m) x; kind = Conflict })
+-- no variable is declared at the place that is told to be loose
+abbrev pub NoneToldAt : Vars → Pairs → Place → Type 0
+NoneToldAt vs told p = (x : ℕ) → x < length vs → declared_at vs x ≡ p → ¬ (slice_get told.loose x ≡ Some true)
 
--- a story that ends with a conflict ends at the declaration of a variable that a loose pair writes
+-- then no step of any run has a conflict there
+abbrev pub UntoldHasNoConflict : Type 0
+UntoldHasNoConflict = (text : List ℕ) (m : ModuleTree) (aif : Aif) (told : Pairs) (p : Place) (s : State) (ins outs : List (List ℤ)) (next : State) (fs : List Fault)
+    → IsAccepted false text m → IsAifOf m aif → ArePairsOf aif told → NoneToldAt (resolved_vars m) told p
+    → IsRunStep (resolved_vars m) (resolved_body m) s ins outs next fs → ¬ Contains fs (record { place = p; kind = Conflict })
+
+-- a story that ends with a conflict ends at a place where a variable is declared that a loose pair writes
 abbrev pub StoriesEndFlagged : Type 0
 StoriesEndFlagged = (text : List ℕ) (m : ModuleTree) (trace : List ℕ) (greatest : ℕ) (written : List (List ℕ)) (k : ℕ) (f : Fault)
     → IsAccepted false text m → Story (resolved_vars m) (resolved_body m) trace greatest written (fault k f) → f.kind ≡ Conflict

@@ -1,4 +1,3 @@
 pub mod Verdicts
-pub mod Places
 pub mod Stories
 pub mod Conflicts

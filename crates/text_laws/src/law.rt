@@ -1,12 +1,12 @@
 //! The laws. The functions do nothing, and their contracts state them.
 
 ghost use Rattle.text_laws.specs.Conflicts.{StoriesEndFlagged, StrictStepsHaveNoConflict, StrictStoriesHaveNoConflict, UntoldHasNoConflict};
-ghost use Rattle.text_laws.specs.Places.{DeclaredApart};
 ghost use Rattle.text_laws.specs.Stories.{StoriesAreOne, StoriesExist};
 ghost use Rattle.text_laws.specs.Verdicts.{CellsHaveOneText, TextsHaveOneVerdict, WellTypedModulesAreSound};
 
-/// Whether loose pairs are refused or not, a text is refused by at most one rule at one place, or accepted as at most
-/// one module, and never both. Whatever a module is compiled to has the same text.
+/// Whether loose pairs are refused or not, a text is refused by at most one rule at one place, or
+/// accepted as at most one module, and never both. Whatever a module is compiled to has the same
+/// text.
 pub fn texts_have_one_verdict()
     ensures verdict { TextsHaveOneVerdict }
     ensures cells { CellsHaveOneText }
@@ -17,14 +17,8 @@ pub fn well_typed_modules_are_sound()
     ensures { WellTypedModulesAreSound }
 {}
 
-/// Different variables of the only module of a text are declared at different places, so that the place of a
-/// conflict names its variable.
-pub fn variables_are_declared_apart()
-    ensures { DeclaredApart }
-{}
-
-/// Over one trace an accepted text has one story at most: the same lines, and the same end. So the lines
-/// of a run are the only ones that the semantics gives.
+/// Over one trace an accepted text has one story at most: the same lines, and the same end. So the
+/// lines of a run are the only ones that the semantics gives.
 pub fn stories_are_one()
     ensures { StoriesAreOne }
 {}
@@ -34,11 +28,12 @@ pub fn stories_exist()
     ensures { StoriesExist }
 {}
 
-/// A variable that is not told to be loose has no conflict in any step of any run, and a run over a trace that
-/// ends with a conflict ends with one of a variable that a loose pair of writes writes. A text that is
-/// accepted where loose pairs are refused has no conflict in any step of any run, and none of its stories ends with one.
+/// No step of any run has a conflict at a place where no variable is declared that is told to be
+/// loose, and a run over a trace that ends with a conflict ends at a place where a variable is
+/// declared that a loose pair of writes writes. A text that is accepted where loose pairs are
+/// refused has no conflict in any step of any run, and none of its stories ends with one.
 pub fn conflicts_are_of_loose_pairs()
-    ensures variable { UntoldHasNoConflict }
+    ensures place { UntoldHasNoConflict }
     ensures stories { StoriesEndFlagged }
     ensures strict_steps { StrictStepsHaveNoConflict }
     ensures strict_stories { StrictStoriesHaveNoConflict }

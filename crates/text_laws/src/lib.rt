@@ -1,10 +1,10 @@
-//! What holds of every text: one verdict at most, one text of its cells, variables declared apart, one story over a trace,
-//! and no conflict where no pair of writes is loose.
+//! What holds of every text: one verdict at most, one text of its cells, one story over a trace, and
+//! no conflict where no pair of writes is loose.
 #![tactic(auto)]
 
 mod law;
 
 pub use law::{
     conflicts_are_of_loose_pairs, stories_are_one, stories_exist, texts_have_one_verdict,
-    variables_are_declared_apart, well_typed_modules_are_sound,
+    well_typed_modules_are_sound,
 };

@@ -4,9 +4,7 @@ use Rattle.std.specs.Prelude.{unsigned_abs, min, Some}
 use Rattle.std.proofs.lemmas.List.{drop_more, drop-append-le, take-append-le, drop-drop, length-drop}
 use Rattle.std.proofs.lemmas.Int.{ints}
 use Rattle.std.proofs.lemmas.Bool.Decides.{nat_tests}
-use Rattle.std.proofs.Math.Nat.{one-le-pow}
 use Rattle.quartz_tree.specs.declared.declare.Base.{Base}
-use Rattle.quartz_tree.specs.declared.declare.Base.TheVariants as base
 use Rattle.quartz_expr.specs.Intervals.{Interval, base_interval, is_in, is_sound_base}
 use Rattle.trace_io.specs.Values.{in_range, value_text}
 use Rattle.trace_io.specs.Writing.{next_number, size_of, drawn, drawn_values, number_behind, all_in_range, line_of_types, rest_of_line, generated_of}

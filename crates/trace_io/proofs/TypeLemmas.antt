@@ -1,13 +1,11 @@
 -- The types of elements are within their bounds.
-use Rattle.std.proofs.Common.{◌≡◌, ◌<◌, ℕ, zero, suc, Bool, true, false, ◌&&◌, if◌then◌else◌, List, [], ◌∷◌, ◌++◌, length, get_or, refl, ap, ◌∙◌, arith, All, Result, OnErr, subst}
+use Rattle.std.proofs.Common.{◌≡◌, ◌<◌, ℕ, zero, suc, Bool, true, false, ◌&&◌, if◌then◌else◌, [], ◌∷◌, ◌++◌, length, get_or, ap, ◌∙◌, arith, All}
 use Rattle.std.proofs.lemmas.List.Elements.{All-append, All-replicate}
 use Rattle.quartz_tree.specs.declared.declare.Var.{Var}
 use Rattle.quartz_tree.specs.declared.declare.Flow.{Flow}
 use Rattle.quartz_expr.specs.Vars.{Vars}
 use Rattle.quartz_expr.specs.Intervals.{is_sound_base, is_sound_length, is_sound_type}
 use Rattle.quartz_expr.specs.Typed.{have_sound_types}
-use Rattle.outside.specs.Bytes.{GainsBegun}
-use Rattle.outside.specs.declared.source.Failed.{Failed}
 use Rattle.trace_io.specs.Inputs.{same_flow, scalars, count_in, types_with}
 use Rattle.quartz_expr.proofs.TruthLemmas.{and_parts}
 
@@ -41,7 +39,3 @@ types_sound f (v ∷ vs) e = step (same_flow f v.decl.flow) (types_sound f vs (a
     step : (b : Bool) → All (λ b. is_sound_base b ≡ true) (types_with f vs) → All (λ b. is_sound_base b ≡ true) (if b then scalars v ++ types_with f vs else types_with f vs)
     step true k = All-append (λ b. is_sound_base b ≡ true) (scalars v) (types_with f vs) (All-replicate (λ b. is_sound_base b ≡ true) (count_in v) v.decl.ty.base (base_sound v (and_parts (is_sound_type v.decl.ty) (have_sound_types vs) e).0)) k
     step false k = k
-
--- a prefix of a line is one of the same line
-pub begun_same : (r : Result (Unit {0}) Failed) (before after : List ℕ → Type 0) (xs ys : List ℕ) → xs ≡ ys → OnErr r (GainsBegun before after xs) → OnErr r (GainsBegun before after ys)
-begun_same r before after xs ys e h = subst (λ (zs : List ℕ). OnErr r (GainsBegun before after zs)) e h

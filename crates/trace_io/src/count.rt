@@ -1,3 +1,5 @@
+//! A sink that counts.
+
 ghost use Rattle.std.specs.Prelude.{◌≡◌, ◌≤◌, ◌<◌, ◌⊎◌, ◌+◌, ◌-◌, ◌^◌, [], true, min, length, IfOk, vec_capacity};
 ghost use Rattle.trace_io.specs.Lines.{is_ended};
 ghost use Rattle.trace_io.specs.Counting.{longest_line, line_with, last_line, grows_long, StandsFor};
@@ -23,7 +25,8 @@ fn is_closed(line: &[u8]) -> bool
 // Adds a byte to the last line, or begins a new one with it.
 fn add_byte(line: &mut Vec<u8>, byte: u8)
     requires { (length line.old.items ≤ longest_line) × (longest_line ≤ vec_capacity line.old) }
-    ensures added { (line.new.items ≡ line_with line.old.items byte) ⊎ (longest_line < length (line_with line.old.items byte)) }
+    ensures added { (line.new.items ≡ line_with line.old.items byte)
+        ⊎ (longest_line < length (line_with line.old.items byte)) }
     ensures within { length line.new.items ≤ longest_line }
     ensures room { vec_capacity line.old ≤ vec_capacity line.new }
 {
@@ -38,7 +41,8 @@ fn add_byte(line: &mut Vec<u8>, byte: u8)
 // Adds bytes to the last line.
 fn add_bytes(line: &mut Vec<u8>, bytes: &[u8])
     requires { (length line.old.items ≤ longest_line) × (longest_line ≤ vec_capacity line.old) }
-    ensures added { (line.new.items ≡ last_line line.old.items bytes.now) ⊎ (grows_long line.old.items bytes.now ≡ true) }
+    ensures added { (line.new.items ≡ last_line line.old.items bytes.now)
+        ⊎ (grows_long line.old.items bytes.now ≡ true) }
     ensures within { length line.new.items ≤ longest_line }
     ensures room { vec_capacity line.old ≤ vec_capacity line.new }
 {
@@ -47,9 +51,9 @@ fn add_bytes(line: &mut Vec<u8>, bytes: &[u8])
     }
 }
 
-/// A sink that counts bytes and keeps the last line, and never fails. It stands for each list with its
-/// number of bytes and its last line, and for each that has a line of more than 2,293,760 bytes, or more
-/// than 18,446,744,073,709,551,615 bytes.
+/// A sink that counts bytes and keeps the last line, and never fails. It stands for each list with
+/// its number of bytes and its last line, and for each that has a line of more than 2,293,760
+/// bytes, or more than 18,446,744,073,709,551,615 bytes.
 #[derive(Debug, Drop)]
 pub struct CountSink {
     count: u64,
@@ -64,7 +68,8 @@ impl Model for CountSink {
 
     ghost view = { λ s. record { count = s.count; last = s.line.items } };
 
-    ghost invariant = { λ s. (length s.line.items ≤ longest_line) × (longest_line ≤ vec_capacity s.line) };
+    ghost invariant = { λ s. (length s.line.items ≤ longest_line)
+        × (longest_line ≤ vec_capacity s.line) };
 }
 
 impl CountSink {
@@ -95,7 +100,8 @@ impl CountSink {
     // Counts the bytes of a piece and keeps its last line.
     fn add(&mut self, piece: &[u8])
         ensures count { self.new.count ≡ min (self.old.count + length piece.now) (2 ^ 64 - 1) }
-        ensures last { (self.new.last ≡ last_line self.old.last piece.now) ⊎ (grows_long self.old.last piece.now ≡ true) }
+        ensures last { (self.new.last ≡ last_line self.old.last piece.now)
+            ⊎ (grows_long self.old.last piece.now ≡ true) }
     {
         self.count = self.count.saturating_add(piece.len() as u64);
         add_bytes(&mut self.line, piece);

@@ -1,3 +1,5 @@
+//! An element of an input.
+
 use quartz_tree::Base;
 
 /// An element of an input: its place among all elements of the inputs, and its scalar type.

@@ -1,3 +1,5 @@
+//! The elements of the inputs, each with its place and type.
+
 ghost use Rattle.std.specs.Prelude.{◌≡◌, true, length, All, IfOk};
 ghost use Rattle.quartz_expr.specs.Intervals.{is_sound_base};
 ghost use Rattle.trace_io.specs.Inputs.{fields_from};

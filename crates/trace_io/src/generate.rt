@@ -1,3 +1,5 @@
+//! Traces that a seed determines.
+
 ghost use Rattle.std.specs.Prelude.{◌≡◌, ◌≤◌, ◌<◌, ◌⊎◌, ◌+◌, ◌*◌, ◌^◌, true, [], length, All, IfOk, Some, None, vec_capacity};
 ghost use Rattle.quartz_expr.specs.Intervals.{base_interval, is_sound_base};
 ghost use Rattle.quartz_expr.specs.Typed.{AreSound};
@@ -81,16 +83,30 @@ impl Model for TraceGen {
 
     ghost Value = { Generator };
 
-    ghost view = { λ s. record { rest = drop s.at s.line.items; types = s.types.items; number = s.number; steps = s.steps } };
+    ghost view = { λ s. record {
+      rest = drop s.at s.line.items;
+      types = s.types.items;
+      number = s.number;
+      steps = s.steps;
+    } };
 
-    ghost invariant = { λ s. All (λ b. is_sound_base b ≡ true) s.types.items × (length s.types.items ≤ vec_capacity s.values) × (length s.types.items * 35 + 1 ≤ vec_capacity s.line) × (s.at ≤ length s.line.items) };
+    ghost invariant = { λ s. All (λ b. is_sound_base b ≡ true) s.types.items
+        × (length s.types.items ≤ vec_capacity s.values)
+        × (length s.types.items * 35 + 1 ≤ vec_capacity s.line) × (s.at ≤ length s.line.items) };
 }
 
 impl TraceGen {
-    /// A source of so many lines for the inputs among these variables. All its memory is taken here.
+    /// A source of so many lines for the inputs among these variables. All its memory is taken
+    /// here.
     pub fn new(alloc: Global, vars: &[Var], seed: u64, steps: u32) -> Result<TraceGen, NoMemory>
         requires { AreSound vars.now }
-        ensures { IfOk result (λ g. g ≡ record { rest = []; types = input_types vars.now; number = seed; steps = steps }) }
+        ensures { IfOk result
+            (λ g. g ≡ record {
+              rest = [];
+              types = input_types vars.now;
+              number = seed;
+              steps = steps;
+            }) }
     {
         let types = types_of(alloc, vars, Flow::Input)?;
         let room = types.len().checked_mul(VALUE_ROOM).ok_or(NoMemory)?;

@@ -1,3 +1,5 @@
+//! The header of a trace that names its inputs.
+
 ghost use Rattle.std.specs.Prelude.{◌≡◌, ◌≤◌, ◌<◌, ◌+◌, ℕ, true, false, [], length, All, IfOk, IfSome, slice_set, vec_capacity, option_and_then, if◌then◌else◌, None, Some, ◌++◌};
 ghost use Rattle.quartz_expr.specs.Intervals.{is_sound_type};
 ghost use Rattle.quartz_expr.specs.Typed.{have_sound_types};
@@ -8,7 +10,7 @@ ghost use Rattle.trace_io.specs.Header.{Named, inputs_from, number_named, fields
 ghost use Rattle.trace_io.specs.Scan.{AreFields};
 
 use crate::field::Field;
-use crate::line::{trimmed, word_length};
+use crate::line::{trim_front, word_length};
 use crate::types::{count_of, same_flow};
 use quartz_tree::{Flow, Name, NoMemory, Var};
 use std::alloc::Global;
@@ -34,7 +36,12 @@ impl Input {
     fn new(alloc: Global, var: &Var, place: usize, behind: usize) -> Result<Input, NoMemory>
         requires sound { is_sound_type var.now.decl.ty ≡ true }
         requires behind { behind ≡ place + count_in var.now }
-        ensures { IfOk result (λ i. i ≡ record { name = var.now.decl.name; fields = fields_from place (scalars var.now) }) }
+        ensures { IfOk result
+            (λ i. i ≡ record {
+              name = var.now.decl.name;
+              fields = fields_from place
+                  (scalars var.now);
+            }) }
     {
         let base = var.decl.ty.base;
         let mut fields = Vec::with_capacity(alloc, behind - place)?;
@@ -93,15 +100,19 @@ fn find_input(inputs: &[Input], name: &[u8]) -> Option<usize>
     None
 }
 
-// Adds the elements of the input with that name, and marks it. It answers whether there is such an input,
-// and it had no mark.
+// Adds the elements of the input with that name, and marks it. It answers whether there is such an
+// input, and it had no mark.
 fn add_named(inputs: &[Input], name: &[u8], marks: &mut [bool], fields: &mut Vec<Field>) -> bool
     requires long { length inputs.now ≡ length marks.old }
-    requires room { length fields.old.items + unmarked_count inputs.now marks.old ≤ vec_capacity fields.old }
-    ensures named { Adds (number_named inputs.now name.now) inputs.now marks.old fields.old.items result marks.new fields.new.items }
+    requires room { length fields.old.items + unmarked_count inputs.now marks.old
+        ≤ vec_capacity fields.old }
+    ensures named { Adds (number_named inputs.now name.now) inputs.now marks.old fields.old.items
+        result marks.new fields.new.items }
     ensures long { length marks.new ≡ length marks.old }
-    ensures room { length fields.new.items + unmarked_count inputs.now marks.new ≤ vec_capacity fields.new }
-    ensures sound { (n : ℕ) → All (λ i. AreFields n i.fields) inputs.now → AreFields n fields.old.items → AreFields n fields.new.items }
+    ensures room { length fields.new.items + unmarked_count inputs.now marks.new
+        ≤ vec_capacity fields.new }
+    ensures sound { (n : ℕ) → All (λ i. AreFields n i.fields) inputs.now
+        → AreFields n fields.old.items → AreFields n fields.new.items }
 {
     let Some(number) = find_input(inputs, name) else {
         return false;
@@ -115,8 +126,8 @@ fn add_named(inputs: &[Input], name: &[u8], marks: &mut [bool], fields: &mut Vec
     true
 }
 
-/// Reads the names of a header: the elements of the inputs with these names, each of which is marked. It
-/// answers whether each name is an input's, and none stands twice.
+/// Reads the names of a header: the elements of the inputs with these names, each of which is
+/// marked. It answers whether each name is an input's, and none stands twice.
 pub(crate) fn read_names(
     inputs: &[Input],
     text: &[u8],
@@ -125,19 +136,21 @@ pub(crate) fn read_names(
 ) -> bool
     requires long { length inputs.now ≡ length marks.old }
     requires room { unmarked_count inputs.now marks.old ≤ vec_capacity fields.old }
-    ensures named { Listed (names_by inputs.now marks.old [] (words text.now)) result fields.new.items }
+    ensures named { Listed
+        (names_by inputs.now marks.old [] (words text.now)) result fields.new.items }
     ensures long { length marks.new ≡ length marks.old }
     ensures room { unmarked_count inputs.now marks.new ≤ vec_capacity fields.new }
-    ensures sound { (n : ℕ) → All (λ i. AreFields n i.fields) inputs.now → AreFields n fields.new.items }
+    ensures sound { (n : ℕ) → All (λ i. AreFields n i.fields) inputs.now
+        → AreFields n fields.new.items }
 {
     fields.clear();
-    let mut rest = trimmed(text);
+    let mut rest = trim_front(text);
     while !rest.is_empty() {
         let end = word_length(rest);
         if !add_named(inputs, &rest[..end], marks, fields) {
             return false;
         }
-        rest = trimmed(&rest[end..]);
+        rest = trim_front(&rest[end..]);
     }
     true
 }

@@ -1,4 +1,5 @@
-//! Traces as text: reading the inputs of macro steps and writing their outputs, and generated traces.
+//! Traces as text: reading the inputs of macro steps and writing their outputs, and generated
+//! traces.
 #![tactic(auto)]
 
 mod count;

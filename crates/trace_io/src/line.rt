@@ -1,3 +1,5 @@
+//! The values of a line.
+
 ghost use Rattle.std.specs.Prelude.{◌≡◌, ◌<◌, ◌≤◌, true, length, take, drop};
 ghost use Rattle.quartz_expr.specs.Intervals.{is_sound_base};
 ghost use Rattle.trace_io.specs.Lines.{is_blank, words, without_last, text_in};
@@ -13,7 +15,7 @@ fn is_separator(byte: u8) -> bool
 }
 
 /// The text behind the blanks and tabs at its front.
-pub(crate) fn trimmed(text: &[u8]) -> &[u8]
+pub(crate) fn trim_front(text: &[u8]) -> &[u8]
     ensures { result.now ≡ unblanked text.now }
 {
     let mut at = 0;
@@ -54,15 +56,15 @@ fn place_value(field: Field, may_keep: bool, word: &[u8], last: &mut [i64]) -> b
     }
 }
 
-/// Reads one word for each of these elements into its place. Where `may_keep`, the word `_` keeps the
-/// value that is there. It answers whether there are so many words, each readable.
+/// Reads one word for each of these elements into its place. Where `may_keep`, the word `_` keeps
+/// the value that is there. It answers whether there are so many words, each readable.
 pub fn read_fields(fields: &[Field], may_keep: bool, text: &[u8], last: &mut [i64]) -> bool
     requires { AreFields (length last.old) fields.now }
     ensures { Placed (reads_by may_keep fields.now (words text.now) last.old) result last.new }
 {
     let mut rest = text;
     for field in fields {
-        let front = trimmed(rest);
+        let front = trim_front(rest);
         let end = word_length(front);
         if end == 0 {
             return false;
@@ -72,7 +74,7 @@ pub fn read_fields(fields: &[Field], may_keep: bool, text: &[u8], last: &mut [i6
         }
         rest = &front[end..];
     }
-    trimmed(rest).is_empty()
+    trim_front(rest).is_empty()
 }
 
 // Without the last byte, where that is this one.

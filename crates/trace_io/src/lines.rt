@@ -1,3 +1,5 @@
+//! The lines of a source, one after another.
+
 ghost use Rattle.std.specs.Prelude.{◌≡◌, ◌≤◌, ◌<◌, ◌+◌, ◌++◌, ◌↔◌, ◌⊎◌, ◌==◌, if◌then◌else◌, ℕ, List, [], true, false, length, take, drop, Some, IfOk, OnErr, vec_capacity};
 ghost use Rattle.outside.specs.Bytes.{Rose, Counted};
 ghost use Rattle.trace_io.specs.Held.{has_line_end, Came, Read};
@@ -78,9 +80,15 @@ impl Model for LineReader {
 
     ghost Value = { Held };
 
-    ghost view = { λ s. record { line = s.line.items; waiting = take (s.upto - s.at) (drop s.at s.chunk.items); ended = s.ended } };
+    ghost view = { λ s. record {
+      line = s.line.items;
+      waiting = take (s.upto - s.at)
+          (drop s.at s.chunk.items);
+      ended = s.ended;
+    } };
 
-    ghost invariant = { λ s. (s.at ≤ s.upto) × (s.upto ≤ length s.chunk.items) × (1 ≤ length s.chunk.items) × (65537 ≤ vec_capacity s.line) };
+    ghost invariant = { λ s. (s.at ≤ s.upto) × (s.upto ≤ length s.chunk.items)
+        × (1 ≤ length s.chunk.items) × (65537 ≤ vec_capacity s.line) };
 }
 
 impl LineReader {
@@ -125,9 +133,11 @@ impl LineReader {
         ensures counted { Counted (S.calls input.old) (S.calls input.new) }
         ensures line { self.new.line ≡ self.old.line }
         ensures count { IfOk result (λ n. length self.new.waiting ≡ n) }
-        ensures ended { IfOk result (λ n. (self.new.ended ≡ true) ↔ ((n ≡ 0) ⊎ (self.old.ended ≡ true))) }
+        ensures ended { IfOk result
+            (λ n. (self.new.ended ≡ true) ↔ ((n ≡ 0) ⊎ (self.old.ended ≡ true))) }
         ensures moved { IfOk result (λ n. (bytes : List ℕ) → S.left input.old ≡ Some bytes →
-            (S.left input.new ≡ Some (drop n bytes)) × (self.new.waiting ≡ take n bytes) × ((n ≡ 0) ↔ (bytes ≡ []))) }
+            (S.left input.new ≡ Some (drop n bytes)) × (self.new.waiting ≡ take n bytes)
+            × ((n ≡ 0) ↔ (bytes ≡ []))) }
         ensures rose { OnErr result (Rose (S.faults input.old) (S.faults input.new)) }
         ensures same { OnErr result (self.new ≡ self.old) }
         ensures kept { OnErr result (S.left input.new ≡ S.left input.old) }
@@ -153,11 +163,15 @@ impl LineReader {
         }
     }
 
-    /// Reads the next line. The source is not asked where a whole line is held, or where it has ended.
+    /// Reads the next line. The source is not asked where a whole line is held, or where it has
+    /// ended.
     pub fn read_line<S: Source>(&mut self, input: &mut S) -> Found
-        ensures read { Read self.old (S.left input.old) (S.faults input.old) (S.calls input.old) result self.new (S.left input.new) (S.faults input.new) (S.calls input.new) }
+        ensures read { Read self.old (S.left input.old) (S.faults input.old)
+            (S.calls input.old) result self.new (S.left input.new) (S.faults input.new)
+            (S.calls input.new) }
         ensures ends { self.old.ended ≡ true → self.new.ended ≡ true }
-        ensures stays { (has_line_end self.old.waiting ≡ true) ⊎ (self.old.ended ≡ true) → input.new ≡ input.old }
+        ensures stays { (has_line_end self.old.waiting ≡ true) ⊎ (self.old.ended ≡ true) → input.new
+            ≡ input.old }
     {
         self.line.clear();
         while !self.move_waiting() {

@@ -1,3 +1,5 @@
+//! The steps of a trace of either format, one after another.
+
 ghost use Rattle.std.specs.Prelude.{◌≡◌, ◌≤◌, ◌⊎◌, ℕ, List, true, false, [], None, Some, length, IfOk, vec_capacity};
 ghost use Rattle.quartz_expr.specs.Typed.{AreSound};
 ghost use Rattle.trace_io.specs.declared.step.ReadStep.{ReadStep as Answer};
@@ -55,19 +57,38 @@ impl Model for TraceReader {
 
     ghost Value = { Reader };
 
-    ghost view = { λ r. record { trail = record { course = record { held = r.lines; fields = r.fields.items; may_keep = r.may_keep; last = r.last.items }; inputs = r.inputs.items; is_fresh = r.is_fresh }; over = r.over } };
+    ghost view = { λ r. record {
+      trail = record {
+        course = record {
+          held = r.lines;
+          fields = r.fields.items;
+          may_keep = r.may_keep;
+          last = r.last.items;
+        };
+        inputs = r.inputs.items;
+        is_fresh = r.is_fresh;
+      };
+      over = r.over;
+    } };
 
-    ghost invariant = { λ r. AreFields (length r.last.items) r.fields.items × All (λ i. AreFields (length r.last.items) i.fields) r.inputs.items × (length r.inputs.items ≡ length r.marks.items) × (unmarked_count r.inputs.items r.marks.items ≤ vec_capacity r.fields) × (r.is_fresh ≡ true → (r.marks.items ≡ no_marks r.inputs.items) × (r.may_keep ≡ false)) };
+    ghost invariant = { λ r. AreFields (length r.last.items) r.fields.items
+        × All (λ i. AreFields (length r.last.items) i.fields) r.inputs.items
+        × (length r.inputs.items ≡ length r.marks.items)
+        × (unmarked_count r.inputs.items r.marks.items ≤ vec_capacity r.fields)
+        × (r.is_fresh ≡ true → (r.marks.items ≡ no_marks r.inputs.items) × (r.may_keep ≡ false)) };
 }
 
 impl TraceReader {
     /// A reader for the inputs among these variables. All its memory is taken here.
     pub fn new(alloc: Global, vars: &[Var]) -> Result<TraceReader, NoMemory>
         requires { AreSound vars.now }
-        ensures means { IfOk result (λ r. (ls : List (List ℕ)) → coming r.trail ls ≡ steps_of vars.now ls) }
-        ensures holds { IfOk result (λ r. r.trail.course.held ≡ record { line = []; waiting = []; ended = false }) }
+        ensures means { IfOk result
+            (λ r. (ls : List (List ℕ)) → coming r.trail ls ≡ steps_of vars.now ls) }
+        ensures holds { IfOk result
+            (λ r. r.trail.course.held ≡ record { line = []; waiting = []; ended = false }) }
         ensures begins { IfOk result (λ r. (r.trail.is_fresh ≡ true) × (r.over ≡ None)) }
-        ensures count { IfOk result (λ r. length r.trail.course.last ≡ length (input_types vars.now)) }
+        ensures count { IfOk result
+            (λ r. length r.trail.course.last ≡ length (input_types vars.now)) }
     {
         let types = types_of(alloc, vars, Flow::Input)?;
         let fields = fields_of(alloc, &types)?;
@@ -97,10 +118,14 @@ impl TraceReader {
     // Reads the values of the line that is held into the packet.
     fn read_values(&mut self, into: &mut Packet) -> bool
         requires { length self.old.trail.course.last ≤ vec_capacity into.old.values }
-        ensures read { Placed (reads_by self.old.trail.course.may_keep self.old.trail.course.fields (words (text_in self.old.trail.course.held.line)) self.old.trail.course.last) result self.new.trail.course.last }
+        ensures read { Placed
+            (reads_by self.old.trail.course.may_keep self.old.trail.course.fields
+            (words (text_in self.old.trail.course.held.line)) self.old.trail.course.last)
+            result self.new.trail.course.last }
         ensures given { result ≡ true → into.new.values.items ≡ self.new.trail.course.last }
         ensures held { self.new.trail.course.held ≡ self.old.trail.course.held }
-        ensures fields { (self.new.trail.course.fields ≡ self.old.trail.course.fields) × (self.new.trail.course.may_keep ≡ self.old.trail.course.may_keep) }
+        ensures fields { (self.new.trail.course.fields ≡ self.old.trail.course.fields)
+            × (self.new.trail.course.may_keep ≡ self.old.trail.course.may_keep) }
         ensures long { length self.new.trail.course.last ≡ length self.old.trail.course.last }
         ensures begun { self.new.trail.is_fresh ≡ false }
         ensures room { vec_capacity into.old.values ≤ vec_capacity into.new.values }
@@ -119,9 +144,13 @@ impl TraceReader {
     // Reads a step behind the first line.
     fn read_next<S: Source>(&mut self, input: &mut S, into: &mut Packet) -> ReadStep
         requires { length self.old.trail.course.last ≤ vec_capacity into.old.values }
-        ensures read { ReadNext self.old.trail.course (S.left input.old) (S.faults input.old) (S.calls input.old) result self.new.trail.course into.new.values.items (S.left input.new) (S.faults input.new) (S.calls input.new) }
-        ensures stays { (has_line_end self.old.trail.course.held.waiting ≡ true) ⊎ (self.old.trail.course.held.ended ≡ true) → input.new ≡ input.old }
-        ensures fields { (self.new.trail.course.fields ≡ self.old.trail.course.fields) × (self.new.trail.course.may_keep ≡ self.old.trail.course.may_keep) }
+        ensures read { ReadNext self.old.trail.course (S.left input.old) (S.faults input.old)
+            (S.calls input.old) result self.new.trail.course into.new.values.items
+            (S.left input.new) (S.faults input.new) (S.calls input.new) }
+        ensures stays { (has_line_end self.old.trail.course.held.waiting ≡ true)
+            ⊎ (self.old.trail.course.held.ended ≡ true) → input.new ≡ input.old }
+        ensures fields { (self.new.trail.course.fields ≡ self.old.trail.course.fields)
+            × (self.new.trail.course.may_keep ≡ self.old.trail.course.may_keep) }
         ensures long { length self.new.trail.course.last ≡ length self.old.trail.course.last }
         ensures begun { self.new.trail.is_fresh ≡ false }
         ensures room { vec_capacity into.old.values ≤ vec_capacity into.new.values }
@@ -144,9 +173,13 @@ impl TraceReader {
     // Takes the header that is held, and answers whether it is one.
     fn take_header(&mut self) -> bool
         requires { self.old.trail.is_fresh ≡ true }
-        ensures named { Listed (names_by self.old.trail.inputs (no_marks self.old.trail.inputs) [] (words (behind_first (text_in self.old.trail.course.held.line)))) result self.new.trail.course.fields }
+        ensures named { Listed
+            (names_by self.old.trail.inputs (no_marks self.old.trail.inputs) []
+            (words (behind_first
+            (text_in self.old.trail.course.held.line)))) result self.new.trail.course.fields }
         ensures keeps { self.new.trail.course.may_keep ≡ result }
-        ensures same { (self.new.trail.course.held ≡ self.old.trail.course.held) × (self.new.trail.course.last ≡ self.old.trail.course.last) }
+        ensures same { (self.new.trail.course.held ≡ self.old.trail.course.held)
+            × (self.new.trail.course.last ≡ self.old.trail.course.last) }
         ensures begun { self.new.trail.is_fresh ≡ false }
     {
         self.is_fresh = false;
@@ -159,7 +192,9 @@ impl TraceReader {
     fn read_first<S: Source>(&mut self, input: &mut S, into: &mut Packet) -> ReadStep
         requires fresh { self.old.trail.is_fresh ≡ true }
         requires room { length self.old.trail.course.last ≤ vec_capacity into.old.values }
-        ensures read { ReadTrace self.old.trail (S.left input.old) (S.faults input.old) (S.calls input.old) result self.new.trail into.new.values.items (S.left input.new) (S.faults input.new) (S.calls input.new) }
+        ensures read { ReadTrace self.old.trail (S.left input.old) (S.faults input.old)
+            (S.calls input.old) result self.new.trail into.new.values.items (S.left input.new)
+            (S.faults input.new) (S.calls input.new) }
         ensures begun { result ≡ Step → self.new.trail.is_fresh ≡ false }
         ensures long { length self.new.trail.course.last ≡ length self.old.trail.course.last }
         ensures room { vec_capacity into.old.values ≤ vec_capacity into.new.values }
@@ -187,8 +222,12 @@ impl TraceReader {
     // Reads a step, the first one or one behind it.
     fn read_any<S: Source>(&mut self, input: &mut S, into: &mut Packet) -> ReadStep
         requires { length self.old.trail.course.last ≤ vec_capacity into.old.values }
-        ensures read { ReadTrace self.old.trail (S.left input.old) (S.faults input.old) (S.calls input.old) result self.new.trail into.new.values.items (S.left input.new) (S.faults input.new) (S.calls input.new) }
-        ensures stays { self.old.trail.is_fresh ≡ false → (has_line_end self.old.trail.course.held.waiting ≡ true) ⊎ (self.old.trail.course.held.ended ≡ true) → input.new ≡ input.old }
+        ensures read { ReadTrace self.old.trail (S.left input.old) (S.faults input.old)
+            (S.calls input.old) result self.new.trail into.new.values.items (S.left input.new)
+            (S.faults input.new) (S.calls input.new) }
+        ensures stays { self.old.trail.is_fresh ≡ false
+            → (has_line_end self.old.trail.course.held.waiting ≡ true)
+            ⊎ (self.old.trail.course.held.ended ≡ true) → input.new ≡ input.old }
         ensures begun { result ≡ Step → self.new.trail.is_fresh ≡ false }
         ensures long { length self.new.trail.course.last ≡ length self.old.trail.course.last }
         ensures room { vec_capacity into.old.values ≤ vec_capacity into.new.values }
@@ -201,16 +240,21 @@ impl TraceReader {
         }
     }
 
-    /// Reads the next step into a packet, which has room for the inputs' values. The first call takes the
-    /// header too, where there is one. Later calls do not ask the source where a whole line is held, or where
-    /// it has ended. An answer other than `Step` stays the answer to each later call, and nothing is read any
-    /// more.
+    /// Reads the next step into a packet, which has room for the inputs' values. The first call
+    /// takes the header too, where there is one. Later calls do not ask the source where a whole
+    /// line is held, or where it has ended. An answer other than `Step` stays the answer to each
+    /// later call, and nothing is read any more.
     pub fn read_step<S: Source>(&mut self, input: &mut S, into: &mut Packet) -> ReadStep
         requires { length self.old.trail.course.last ≤ vec_capacity into.old.values }
-        ensures read { self.old.over ≡ None → ReadTrace self.old.trail (S.left input.old) (S.faults input.old) (S.calls input.old) result self.new.trail into.new.values.items (S.left input.new) (S.faults input.new) (S.calls input.new) }
-        ensures again { (answer : Answer) → self.old.over ≡ Some answer → (result ≡ answer) × (self.new ≡ self.old) × (input.new ≡ input.old) }
+        ensures read { self.old.over ≡ None → ReadTrace self.old.trail (S.left input.old)
+            (S.faults input.old) (S.calls input.old) result self.new.trail into.new.values.items
+            (S.left input.new) (S.faults input.new) (S.calls input.new) }
+        ensures again { (answer : Answer) → self.old.over ≡ Some answer → (result ≡ answer)
+            × (self.new ≡ self.old) × (input.new ≡ input.old) }
         ensures over { self.old.over ≡ None → self.new.over ≡ over_by result }
-        ensures stays { self.old.trail.is_fresh ≡ false → (has_line_end self.old.trail.course.held.waiting ≡ true) ⊎ (self.old.trail.course.held.ended ≡ true) → input.new ≡ input.old }
+        ensures stays { self.old.trail.is_fresh ≡ false
+            → (has_line_end self.old.trail.course.held.waiting ≡ true)
+            ⊎ (self.old.trail.course.held.ended ≡ true) → input.new ≡ input.old }
         ensures begun { self.old.over ≡ None → result ≡ Step → self.new.trail.is_fresh ≡ false }
         ensures long { length self.new.trail.course.last ≡ length self.old.trail.course.last }
         ensures room { vec_capacity into.old.values ≤ vec_capacity into.new.values }

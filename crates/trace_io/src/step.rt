@@ -1,3 +1,5 @@
+//! What comes of reading a step.
+
 /// What came of reading a step of a trace.
 #[derive(Clone, Copy, Debug, PartialEq, Eq)]
 pub enum ReadStep {

@@ -1,3 +1,5 @@
+//! The scalar types of the inputs or outputs.
+
 ghost use Rattle.std.specs.Prelude.{◌≡◌, ◌++◌, true, IfOk, OnOk, All};
 ghost use Rattle.quartz_expr.specs.Intervals.{is_sound_base, is_sound_type};
 ghost use Rattle.quartz_expr.specs.Typed.{have_sound_types};

@@ -1,3 +1,5 @@
+//! One value as text, read and written.
+
 ghost use Rattle.std.specs.Prelude.{◌≡◌, ◌≤◌, ◌+◌, ◌-◌, ◌*◌, ◌++◌, ◌^◌, ◌<◌, ℕ, true, length, vec_capacity, option_map, unsigned_abs, pos, ◌≤ℤ◌};
 ghost use Rattle.quartz_expr.specs.Intervals.{base_interval, is_in, is_sound_base};
 ghost use Rattle.trace_io.specs.Values.{is_digit, number_in, digits_behind, truth_in, integer_in, bits_in, spelled, reads_value, binary, value_text, in_range};

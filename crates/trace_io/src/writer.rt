@@ -1,5 +1,7 @@
-ghost use Rattle.std.specs.Prelude.{◌≡◌, ◌≤◌, ◌+◌, ◌*◌, ◌++◌, ◌∷◌, ◌==◌, true, length, All, IfOk, OnOk, OnErr, vec_capacity, if◌then◌else◌};
-ghost use Rattle.outside.specs.Bytes.{Rose, Gains, GainsBegun};
+//! The lines of steps' outputs.
+
+ghost use Rattle.std.specs.Prelude.{◌≡◌, ◌≤◌, ◌+◌, ◌*◌, ◌++◌, ◌∷◌, ◌==◌, true, length, All, IfOk, vec_capacity, if◌then◌else◌};
+ghost use Rattle.outside.specs.Puts.{Puts};
 ghost use Rattle.quartz_expr.specs.Intervals.{base_interval, is_in, is_sound_base};
 ghost use Rattle.quartz_expr.specs.Typed.{AreSound};
 ghost use Rattle.trace_io.specs.Values.{value_text, in_range};
@@ -30,7 +32,9 @@ fn value_within(base: Base, value: i64) -> i64
 fn push_separated(line: &mut Vec<u8>, is_first: bool, base: Base, value: i64)
     requires sound { is_sound_base base ≡ true }
     requires room { length line.old.items + 35 ≤ vec_capacity line.old }
-    ensures text { line.new.items ≡ line.old.items ++ (if is_first then value_text base (in_range base value) else 32 ∷ value_text base (in_range base value)) }
+    ensures text { line.new.items ≡ line.old.items
+        ++ (if is_first then value_text base (in_range base value) else 32 ∷ value_text base
+        (in_range base value)) }
     ensures size { length line.new.items ≤ length line.old.items + 35 }
     ensures room_stays { vec_capacity line.old ≤ vec_capacity line.new }
 {
@@ -71,7 +75,8 @@ impl Model for TraceWriter {
 
     ghost view = { λ w. w.types.items };
 
-    ghost invariant = { λ w. All (λ b. is_sound_base b ≡ true) w.types.items × (length w.types.items * 35 + 1 ≤ vec_capacity w.line) };
+    ghost invariant = { λ w. All (λ b. is_sound_base b ≡ true) w.types.items
+        × (length w.types.items * 35 + 1 ≤ vec_capacity w.line) };
 }
 
 impl TraceWriter {
@@ -93,15 +98,13 @@ impl TraceWriter {
         self.types.len()
     }
 
-    /// Puts the line of the outputs' values, with which the packet's values begin. A value out of its
-    /// type's range is put as 0.
+    /// Puts the line of the outputs' values, with which the packet's values begin. A value out of
+    /// its type's range is put as 0.
     pub fn write_step<O: Sink>(&mut self, out: &mut O, from: &Packet) -> Result<(), Failed>
         requires { length self.old ≤ length from.now.values.items }
         ensures same { self.new ≡ self.old }
-        ensures never_falls { O.faults out.old ≤ O.faults out.new }
-        ensures gained { OnOk result (Gains (O.stands out.old) (O.stands out.new) (line_of_types self.old (all_in_range self.old from.now.values.items))) }
-        ensures rose { OnErr result (Rose (O.faults out.old) (O.faults out.new)) }
-        ensures begun { OnErr result (GainsBegun (O.stands out.old) (O.stands out.new) (line_of_types self.old (all_in_range self.old from.now.values.items))) }
+        ensures puts { Puts O.stands O.faults result out.old out.new
+            (line_of_types self.old (all_in_range self.old from.now.values.items)) }
     {
         make_line(&self.types, &from.values, &mut self.line);
         put_whole(out, &self.line)

@@ -1,3 +1,5 @@
+//! What trees say of 64 references at once, by a word's bits.
+
 ghost use Rattle.std.specs.Prelude.{◌≡◌, map};
 ghost use Rattle.aif_cells.specs.Tree.{any, tree};
 ghost use Rattle.write_conflicts.specs.Blocks.{bit_of, conjoined, disjoin_all, disjoined, in_addition, nothing, number_in, one_said, own, said, shared, swapped, told, two_said, united};
@@ -99,7 +101,7 @@ fn own(block: Block, reference: Ref) -> Both
 }
 
 // What a cell's tree says.
-fn told(table: &[Both], reference: Ref) -> Both
+fn tell(table: &[Both], reference: Ref) -> Both
     ensures { result ≡ told table.now reference }
 {
     match reference {
@@ -121,7 +123,7 @@ fn add(v: Both, w: Both) -> Both
 pub(crate) fn said_by(block: Block, table: &[Both], reference: Ref) -> Both
     ensures { result ≡ in_addition (own block reference) (told table.now reference) }
 {
-    add(own(block, reference), told(table, reference))
+    add(own(block, reference), tell(table, reference))
 }
 
 fn said_of_one(op: TreeOne, v: Both) -> Both

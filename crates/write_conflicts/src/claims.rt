@@ -1,3 +1,5 @@
+//! What the guard of each action says.
+
 ghost use Rattle.std.specs.Prelude.{◌≡◌, ◌↔◌, ◌+◌, ◌*◌, ◌<◌, ◌⊎◌, ℕ, Contains, IfOk, OnOk, Some, length, slice_get, slice_index_or};
 ghost use Rattle.aif_cells.specs.declared.cells.Action.{Action};
 ghost use Rattle.aif_cells.specs.Built.{all_defined};
@@ -18,8 +20,8 @@ use std::alloc::Global;
 /// What is kept of an action.
 ///
 /// The references that its guard says are in words by block: `yes` has for each block the word of
-/// those that aren't 0, and `no` has the places of the blocks and the words, where they aren't 0, of
-/// those that are 0.
+/// those that aren't 0, and `no` has the places of the blocks and the words, where they aren't 0,
+/// of those that are 0.
 #[derive(Drop)]
 pub(crate) struct Claims {
     pub yes: Items<u64>,
@@ -44,7 +46,9 @@ fn said_at(columns: &[Items<Said>], place: usize, action: usize) -> Said
 
 fn yes_of(alloc: Global, columns: &[Items<Said>], action: usize) -> Result<Items<u64>, NoMemory>
     ensures size { IfOk result (λ y. length y ≡ length columns.now) }
-    ensures words { IfOk result (λ y. (p : ℕ) → p < length columns.now → slice_index_or y p 0 ≡ (said_at columns.now p action).yes) }
+    ensures words { IfOk result
+        (λ y. (p : ℕ) → p < length columns.now
+        → slice_index_or y p 0 ≡ (said_at columns.now p action).yes) }
 {
     let mut words = Items::new(alloc);
     for place in 0..columns.len() {
@@ -55,7 +59,9 @@ fn yes_of(alloc: Global, columns: &[Items<Said>], action: usize) -> Result<Items
 
 // Adds a word with its block's place, where it isn't 0.
 fn push_denied(words: &mut Items<(usize, u64)>, place: usize, word: u64) -> Result<(), NoMemory>
-    ensures { OnOk result ((p w : ℕ) → Contains words.new (p, w) ↔ (Contains words.old (p, w) ⊎ IsDeniedAt place word p w)) }
+    ensures { OnOk result
+        ((p w : ℕ) → Contains words.new (p, w)
+        ↔ (Contains words.old (p, w) ⊎ IsDeniedAt place word p w)) }
 {
     if word == 0 {
         return Ok(());
@@ -69,7 +75,9 @@ fn no_of(
     columns: &[Items<Said>],
     action: usize,
 ) -> Result<Items<(usize, u64)>, NoMemory>
-    ensures { IfOk result (λ n. (p w : ℕ) → Contains n (p, w) ↔ IsDenied columns.now action (length columns.now) p w) }
+    ensures { IfOk result
+        (λ n. (p w : ℕ) → Contains n (p, w)
+        ↔ IsDenied columns.now action (length columns.now) p w) }
 {
     let mut words = Items::new(alloc);
     for place in 0..columns.len() {
@@ -81,7 +89,8 @@ fn no_of(
 // Adds the number of a bit of a block's word, where it is set.
 fn push_number(numbers: &mut Items<u64>, word: u64, at: u32, bit: u64) -> Result<(), NoMemory>
     requires { bit < 64 }
-    ensures { OnOk result ((l : ℕ) → Contains numbers.new l ↔ (Contains numbers.old l ⊎ IsNumberAt word at bit l)) }
+    ensures { OnOk result
+        ((l : ℕ) → Contains numbers.new l ↔ (Contains numbers.old l ⊎ IsNumberAt word at bit l)) }
 {
     if (word >> bit) & 1 == 0 {
         return Ok(());
@@ -92,7 +101,8 @@ fn push_number(numbers: &mut Items<u64>, word: u64, at: u32, bit: u64) -> Result
 
 // Adds the numbers of a block's word, where the block is one of registers.
 fn push_registers(numbers: &mut Items<u64>, block: Block, word: u64) -> Result<(), NoMemory>
-    ensures { OnOk result ((l : ℕ) → Contains numbers.new l ↔ (Contains numbers.old l ⊎ IsRegisterOf block word l)) }
+    ensures { OnOk result
+        ((l : ℕ) → Contains numbers.new l ↔ (Contains numbers.old l ⊎ IsRegisterOf block word l)) }
 {
     if block.group != Group::Registers {
         return Ok(());
@@ -112,7 +122,9 @@ fn registers_of(
     columns: &[Items<Said>],
     action: usize,
 ) -> Result<Items<u64>, NoMemory>
-    ensures { IfOk result (λ r. (l : ℕ) → Contains r l ↔ SaysRegister blocks.now columns.now action (length blocks.now) l) }
+    ensures { IfOk result
+        (λ r. (l : ℕ) → Contains r l
+        ↔ SaysRegister blocks.now columns.now action (length blocks.now) l) }
 {
     let mut registers = Items::new(alloc);
     for place in 0..blocks.len() {
@@ -151,8 +163,11 @@ fn claims_of_action(
 ) -> Result<Claims, NoMemory>
     requires within { at < length aif.now.actions }
     requires covered { AreCovered (all_defined aif.now.cells) blocks.now aif.now.actions }
-    requires columns { AreColumns (all_defined aif.now.cells) blocks.now aif.now.actions columns.now }
-    ensures { IfOk result (λ c. (a : Action) → slice_get aif.now.actions at ≡ Some a → IsClaimButYes (scene aif.now) blocks.now columns.now at a c) }
+    requires columns { AreColumns
+        (all_defined aif.now.cells) blocks.now aif.now.actions columns.now }
+    ensures { IfOk result
+        (λ c. (a : Action) → slice_get aif.now.actions at ≡ Some a
+        → IsClaimButYes (scene aif.now) blocks.now columns.now at a c) }
 {
     let action = aif.actions.as_slice()[at];
     Ok(Claims {
@@ -171,8 +186,10 @@ fn claims_but_yes(
     columns: &[Items<Said>],
 ) -> Result<Vec<Claims>, NoMemory>
     requires covered { AreCovered (all_defined aif.now.cells) blocks.now aif.now.actions }
-    requires columns { AreColumns (all_defined aif.now.cells) blocks.now aif.now.actions columns.now }
-    ensures { IfOk result (λ c. AreClaimsFrom 0 (scene aif.now) blocks.now columns.now aif.now.actions c.items) }
+    requires columns { AreColumns
+        (all_defined aif.now.cells) blocks.now aif.now.actions columns.now }
+    ensures { IfOk result
+        (λ c. AreClaimsFrom 0 (scene aif.now) blocks.now columns.now aif.now.actions c.items) }
 {
     let mut claims = Vec::new(alloc);
     for at in 0..aif.actions.len() {
@@ -181,8 +198,8 @@ fn claims_but_yes(
     Ok(claims)
 }
 
-/// What is kept of each action. The short lists of all actions are made before the long ones, so that
-/// they lie side by side.
+/// What is kept of each action. The short lists of all actions are made before the long ones, so
+/// that they lie side by side.
 pub(crate) fn claims_of(alloc: Global, aif: &Aif, order: &Order) -> Result<Vec<Claims>, NoMemory>
     requires { IsOrder (all_defined aif.now.cells) order.now.cells }
     ensures { IfOk result (λ c. AreClaimsOf (scene aif.now) aif.now.actions c.items) }

@@ -1,3 +1,5 @@
+//! Whether two actions clash, and whether they are loose.
+
 ghost use Rattle.std.specs.Prelude.{◌≡◌, [], ◌∷◌, MatchBool, map};
 ghost use Rattle.write_conflicts.specs.Clash.{Clash, are_apart, indexes_differ, same_step, way_to};
 ghost use Rattle.write_conflicts.specs.Claims.{AreBothClaimed, AreOpposed, HaveCommon, MayMeet, Meets, SomeExclude, is_way, registers_exclude, ways_part};
@@ -59,7 +61,8 @@ fn is_label(paths: &[Path], register: u64) -> bool
 
 // Whether two registers are those of labels whose ways are apart.
 fn are_labels_apart(paths: &[Path], register: u64, other: u64) -> bool
-    ensures { result ≡ ways_part (way_to (map steps_of paths.now) register) (way_to (map steps_of paths.now) other) }
+    ensures { result ≡ ways_part (way_to (map steps_of paths.now) register)
+        (way_to (map steps_of paths.now) other) }
 {
     if !is_label(paths, register) || !is_label(paths, other) {
         return false;
@@ -83,7 +86,8 @@ fn registers_exclude(paths: &[Path], register: u64, other: u64) -> bool
 }
 
 fn excludes_some(paths: &[Path], register: u64, others: &[u64]) -> bool
-    ensures { MatchBool result (SomeExclude (map steps_of paths.now) (register ∷ []) others.now) (SomeExclude (map steps_of paths.now) (register ∷ []) others.now → ⊥) }
+    ensures { MatchBool result (SomeExclude (map steps_of paths.now) (register ∷ []) others.now)
+        (SomeExclude (map steps_of paths.now) (register ∷ []) others.now → ⊥) }
 {
     for other in others {
         if registers_exclude(paths, register, *other) {
@@ -95,7 +99,8 @@ fn excludes_some(paths: &[Path], register: u64, others: &[u64]) -> bool
 
 // Whether a register of the one list excludes one of the other.
 fn some_exclude(paths: &[Path], registers: &[u64], others: &[u64]) -> bool
-    ensures { MatchBool result (SomeExclude (map steps_of paths.now) registers.now others.now) (SomeExclude (map steps_of paths.now) registers.now others.now → ⊥) }
+    ensures { MatchBool result (SomeExclude (map steps_of paths.now) registers.now others.now)
+        (SomeExclude (map steps_of paths.now) registers.now others.now → ⊥) }
 {
     for register in registers {
         if excludes_some(paths, *register, others) {
@@ -117,7 +122,8 @@ fn indexes_differ(index: Option<Ref>, other: Option<Ref>) -> bool
 
 // Whether what one guard says excludes what the other says.
 fn guards_clash(paths: &[Path], first: &Claims, second: &Claims) -> bool
-    ensures { MatchBool result (AreOpposed (map steps_of paths.now) first.now second.now) (AreOpposed (map steps_of paths.now) first.now second.now → ⊥) }
+    ensures { MatchBool result (AreOpposed (map steps_of paths.now) first.now second.now)
+        (AreOpposed (map steps_of paths.now) first.now second.now → ⊥) }
 {
     meets(first.no.as_slice(), second.yes.as_slice())
         || meets(second.no.as_slice(), first.yes.as_slice())
@@ -130,7 +136,8 @@ fn guards_clash(paths: &[Path], first: &Claims, second: &Claims) -> bool
 
 fn clash(aif: &Aif, a: &Action, claims: &Claims, b: &Action, others: &Claims) -> bool
     requires { AreBothClaimed (scene aif.now) a.now b.now claims.now others.now }
-    ensures { MatchBool result (Clash (scene aif.now).cells (scene aif.now).ways a.now b.now) (Clash (scene aif.now).cells (scene aif.now).ways a.now b.now → ⊥) }
+    ensures { MatchBool result (Clash (scene aif.now).cells (scene aif.now).ways a.now b.now)
+        (Clash (scene aif.now).cells (scene aif.now).ways a.now b.now → ⊥) }
 {
     indexes_differ(a.index, b.index) || guards_clash(aif.paths.as_slice(), claims, others)
 }
@@ -138,7 +145,8 @@ fn clash(aif: &Aif, a: &Action, claims: &Claims, b: &Action, others: &Claims) ->
 // Whether two actions write one copy and don't clash.
 fn may_meet(aif: &Aif, a: &Action, claims: &Claims, b: &Action, others: &Claims) -> bool
     requires { AreBothClaimed (scene aif.now) a.now b.now claims.now others.now }
-    ensures { MatchBool result (MayMeet (scene aif.now) a.now b.now) (MayMeet (scene aif.now) a.now b.now → ⊥) }
+    ensures { MatchBool result (MayMeet (scene aif.now) a.now b.now)
+        (MayMeet (scene aif.now) a.now b.now → ⊥) }
 {
     if a.copy != b.copy {
         return false;
@@ -149,7 +157,8 @@ fn may_meet(aif: &Aif, a: &Action, claims: &Claims, b: &Action, others: &Claims)
 /// Whether two actions are loose, by what is kept of them.
 pub(crate) fn are_loose(aif: &Aif, a: &Action, claims: &Claims, b: &Action, others: &Claims) -> bool
     requires { AreBothClaimed (scene aif.now) a.now b.now claims.now others.now }
-    ensures { MatchBool result (AreLoose (scene aif.now) a.now b.now) (AreLoose (scene aif.now) a.now b.now → ⊥) }
+    ensures { MatchBool result (AreLoose (scene aif.now) a.now b.now)
+        (AreLoose (scene aif.now) a.now b.now → ⊥) }
 {
     if a.var != b.var {
         return false;

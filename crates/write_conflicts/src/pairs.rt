@@ -1,7 +1,9 @@
+//! The loose pairs of a module: how many, the least place, and whose.
+
 ghost use Rattle.std.specs.Prelude.{◌≡◌, ◌+◌, ◌<◌, ◌++◌, [], ◌∷◌, ℕ, Contains, IfOk, List, None, OnOk, Some, false, length, min, replicate, slice_set, true};
 ghost use Rattle.aif_cells.specs.Built.{all_defined};
 ghost use Rattle.aif_cells.specs.Order.{IsOrder};
-ghost use Rattle.quartz_tree.specs.Least.{is_before, lesser_place};
+ghost use Rattle.quartz_tree.specs.Least.{lesser_place};
 ghost use Rattle.write_conflicts.specs.Loose.{later_place};
 ghost use Rattle.write_conflicts.specs.Pairs.{ArePairsOf, greatest_count, scene};
 ghost use Rattle.write_conflicts.specs.Claims.{AreClaimsOf};
@@ -25,23 +27,17 @@ pub struct Pairs {
     pub loose: Items<bool>,
 }
 
-fn is_before(p: Place, q: Place) -> bool
-    ensures { result ≡ is_before p q }
-{
-    p.line < q.line || (p.line == q.line && p.col < q.col)
-}
-
 fn later(p: Place, q: Place) -> Place
     ensures { result ≡ later_place p q }
 {
-    if is_before(p, q) { q } else { p }
+    if p.is_before(q) { q } else { p }
 }
 
 fn lesser(p: Place, least: Option<Place>) -> Option<Place>
     ensures { result ≡ lesser_place (Some p) least }
 {
     match least {
-        Some(q) if is_before(q, p) => Some(q),
+        Some(q) if q.is_before(p) => Some(q),
         _ => Some(p),
     }
 }
@@ -62,7 +58,8 @@ impl Pairs {
     // Adds a pair of actions.
     fn add(&mut self, first: &Action, second: &Action)
         ensures count { self.new.count ≡ min (self.old.count + 1) greatest_count }
-        ensures least { self.new.least ≡ lesser_place (Some (later_place first.now.place second.now.place)) self.old.least }
+        ensures least { self.new.least
+            ≡ lesser_place (Some (later_place first.now.place second.now.place)) self.old.least }
         ensures loose { self.new.loose ≡ slice_set self.old.loose first.now.var true }
     {
         self.count = self.count.saturating_add(1);
@@ -78,7 +75,11 @@ fn add_if_loose(found: &mut Pairs, aif: &Aif, claims: &[Claims], first: usize, s
     requires in_turn { first < second }
     requires within { second < length aif.now.actions }
     requires claims { AreClaimsOf (scene aif.now) aif.now.actions claims.now }
-    ensures { (seen : List ℕ) → (Contains seen first → ⊥) → IsTally (scene aif.now) aif.now.actions (length aif.now.vars) (IsSeen seen second) found.old → IsTally (scene aif.now) aif.now.actions (length aif.now.vars) (IsSeen (seen ++ first ∷ []) second) found.new }
+    ensures { (seen : List ℕ) → (Contains seen first → ⊥)
+        → IsTally (scene aif.now) aif.now.actions (length aif.now.vars)
+        (IsSeen seen second) found.old
+        → IsTally (scene aif.now) aif.now.actions (length aif.now.vars)
+        (IsSeen (seen ++ first ∷ []) second) found.new }
 {
     let actions = aif.actions.as_slice();
     if !are_loose(
@@ -98,8 +99,10 @@ fn add_pairs_with(found: &mut Pairs, aif: &Aif, claims: &[Claims], earlier: &[us
     requires within { second < length aif.now.actions }
     requires claims { AreClaimsOf (scene aif.now) aif.now.actions claims.now }
     requires earlier { AreEarlier aif.now.actions second earlier.now }
-    requires tally { IsTally (scene aif.now) aif.now.actions (length aif.now.vars) (IsSeen [] second) found.old }
-    ensures { IsTally (scene aif.now) aif.now.actions (length aif.now.vars) (IsSeen [] (second + 1)) found.new }
+    requires tally { IsTally (scene aif.now) aif.now.actions (length aif.now.vars)
+        (IsSeen [] second) found.old }
+    ensures { IsTally (scene aif.now) aif.now.actions (length aif.now.vars)
+        (IsSeen [] (second + 1)) found.new }
 {
     for first in earlier {
         add_if_loose(found, aif, claims, *first, second);
@@ -135,9 +138,13 @@ fn add_action(
     requires within { second < length aif.now.actions }
     requires claims { AreClaimsOf (scene aif.now) aif.now.actions claims.now }
     requires rows { AreByVariable aif.now.actions (length aif.now.vars) second rows.old.items }
-    requires tally { IsTally (scene aif.now) aif.now.actions (length aif.now.vars) (IsSeen [] second) found.old }
-    ensures rows { OnOk result (AreByVariable aif.now.actions (length aif.now.vars) (second + 1) rows.new.items) }
-    ensures tally { OnOk result (IsTally (scene aif.now) aif.now.actions (length aif.now.vars) (IsSeen [] (second + 1)) found.new) }
+    requires tally { IsTally (scene aif.now) aif.now.actions (length aif.now.vars)
+        (IsSeen [] second) found.old }
+    ensures rows { OnOk result
+        (AreByVariable aif.now.actions (length aif.now.vars) (second + 1) rows.new.items) }
+    ensures tally { OnOk result
+        (IsTally (scene aif.now) aif.now.actions (length aif.now.vars)
+        (IsSeen [] (second + 1)) found.new) }
 {
     let row = row_of(aif.vars.len(), aif.actions.as_slice()[second].var);
     add_pairs_with(found, aif, claims, rows[row].as_slice(), second);

@@ -1,3 +1,5 @@
+//! The blocks that hold all references of which a guard says something.
+
 ghost use Rattle.std.specs.Prelude.{◌≡◌, ◌+◌, ◌/◌, ◌<◌, ◌≤◌, ℕ, All, Contains, IfOk, OnOk, map, max};
 ghost use Rattle.aif_cells.specs.Tree.{tree};
 ghost use Rattle.aif_cells.specs.Built.{all_defined};
@@ -84,8 +86,11 @@ fn greatest_in_guards(group: Group, actions: &[Action]) -> u32
 
 // Adds the blocks of a group up to that of a number.
 fn push_blocks(blocks: &mut Vec<Block>, group: Group, greatest: u32) -> Result<(), NoMemory>
-    ensures kept { OnOk result ((b : Block) → Contains blocks.old.items b → Contains blocks.new.items b) }
-    ensures added { OnOk result ((n : ℕ) → n ≤ greatest / 64 → Contains blocks.new.items (record { group = group; at = n })) }
+    ensures kept { OnOk result
+        ((b : Block) → Contains blocks.old.items b → Contains blocks.new.items b) }
+    ensures added { OnOk result
+        ((n : ℕ) → n ≤ greatest / 64
+        → Contains blocks.new.items (record { group = group; at = n })) }
 {
     for at in 0..greatest / 64 + 1 {
         blocks.push(Block { group, at })?;
@@ -100,8 +105,10 @@ fn push_group(
     cells: &[Cell],
     actions: &[Action],
 ) -> Result<(), NoMemory>
-    ensures kept { OnOk result ((b : Block) → Contains blocks.old.items b → Contains blocks.new.items b) }
-    ensures held { OnOk result (HoldsGroup (all_defined cells.now) actions.now blocks.new.items group) }
+    ensures kept { OnOk result
+        ((b : Block) → Contains blocks.old.items b → Contains blocks.new.items b) }
+    ensures held { OnOk result
+        (HoldsGroup (all_defined cells.now) actions.now blocks.new.items group) }
 {
     let greatest = greatest_in_guards(group, actions).max(greatest_in_cells(group, cells));
     push_blocks(blocks, group, greatest)?;

@@ -1,3 +1,5 @@
+//! For a block, what each cell's tree and each action's guard says.
+
 ghost use Rattle.std.specs.Prelude.{◌≡◌, ◌<◌, length, map, IfOk};
 ghost use Rattle.aif_cells.specs.Built.{all_defined};
 ghost use Rattle.aif_cells.specs.Order.{IsOrder};

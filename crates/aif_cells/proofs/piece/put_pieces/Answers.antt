@@ -1,10 +1,11 @@
+-- What is put, one after another, and the part of it where a put failed.
 use Rattle.std.proofs.Common.{rules}
-use Rattle.aif_cells.proofs.PutLemmas.{on_err, part_more, put_more}
+use Rattle.aif_cells.proofs.PutLemmas.{puts_more, puts_part}
 use Rattle.aif_cells.specs.Put.{piece_text}
 use Rattle.aif_cells.proofs.piece.put_pieces.Goals as goal
 
-pub returns-in_err-put_piece-clause-begun : goal.returns-in_err-put_piece-clause-begun
-returns-in_err-put_piece-clause-begun g c = on_err _ (part_more piece_text c.args.pieces.now c.loop-piece.piece-index _ _ _ _ (search rules) c.loop-piece.invariant.gained c.in_err-put_piece.ensures.begun)
+pub returns-in_err-put_piece : goal.returns-in_err-put_piece
+returns-in_err-put_piece g c = puts_part piece_text c.args.pieces.now c.loop-piece.piece-index _ (search rules) (search rules) c.loop-piece.invariant c.in_err-put_piece.ensures
 
 pub loop-piece-preserved : goal.loop-piece-preserved
-loop-piece-preserved g c = record { never_falls = search rules; gained = put_more piece_text c.args.pieces.now c.loop-piece.piece-index _ _ _ _ (search rules) c.loop-piece.invariant.gained c.in_ok-put_piece.ensures.gained }
+loop-piece-preserved g c = puts_more piece_text c.args.pieces.now c.loop-piece.piece-index _ (search rules) c.loop-piece.invariant c.in_ok-put_piece.ensures

@@ -1,17 +1,18 @@
-use Rattle.std.proofs.Common.{◌++◌}
+-- What is put, one after another, and the part of it where a put failed.
+use Rattle.std.proofs.Common.{rules, ◌++◌}
 use Rattle.std.specs.Prelude.{codes}
-use Rattle.aif_cells.specs.Text.{named_text, storage_text, typed_text}
-use Rattle.aif_cells.proofs.PutLemmas.{on_err, part_first, part_later}
+use Rattle.aif_cells.specs.Text.{storage_text, typed_text}
+use Rattle.outside.proofs.PutsLemmas.{puts_failed, puts_first, puts_then}
 use Rattle.aif_cells.proofs.text.put_inner.Goals as goal
 
-pub returns-in_err-put_named-clause-begun : goal.returns-in_err-put_named-clause-begun
-returns-in_err-put_named-clause-begun g c = on_err _ (part_first _ _ (named_text (codes "local ") c.args.var.now) ((storage_text c.args.var.now.decl.storage) ++ ((typed_text c.args.number c.args.var.now) ++ (codes "\n"))) c.in_err-put_named.ensures.begun)
+pub returns-in_err-put_named : goal.returns-in_err-put_named
+returns-in_err-put_named g c = puts_first ((storage_text c.args.var.now.decl.storage) ++ ((typed_text c.args.number c.args.var.now) ++ (codes "\n"))) (search rules) c.in_err-put_named.ensures
 
-pub returns-in_err-put_storage-clause-begun : goal.returns-in_err-put_storage-clause-begun
-returns-in_err-put_storage-clause-begun g c = on_err _ (part_later _ _ _ (named_text (codes "local ") c.args.var.now) ((storage_text c.args.var.now.decl.storage) ++ ((typed_text c.args.number c.args.var.now) ++ (codes "\n"))) c.in_ok-put_named.ensures.gained (part_first _ _ (storage_text c.args.var.now.decl.storage) ((typed_text c.args.number c.args.var.now) ++ (codes "\n")) c.in_err-put_storage.ensures.begun))
+pub returns-in_err-put_storage : goal.returns-in_err-put_storage
+returns-in_err-put_storage g c = puts_then c.in_ok-put_named.ensures (puts_first ((typed_text c.args.number c.args.var.now) ++ (codes "\n")) (search rules) c.in_err-put_storage.ensures)
 
-pub returns-in_err-put_typed-clause-begun : goal.returns-in_err-put_typed-clause-begun
-returns-in_err-put_typed-clause-begun g c = on_err _ (part_later _ _ _ (named_text (codes "local ") c.args.var.now) ((storage_text c.args.var.now.decl.storage) ++ ((typed_text c.args.number c.args.var.now) ++ (codes "\n"))) c.in_ok-put_named.ensures.gained (part_later _ _ _ (storage_text c.args.var.now.decl.storage) ((typed_text c.args.number c.args.var.now) ++ (codes "\n")) c.in_ok-put_storage.ensures.gained (part_first _ _ (typed_text c.args.number c.args.var.now) (codes "\n") c.in_err-put_typed.ensures.begun)))
+pub returns-in_err-put_typed : goal.returns-in_err-put_typed
+returns-in_err-put_typed g c = puts_then c.in_ok-put_named.ensures (puts_then c.in_ok-put_storage.ensures (puts_first (codes "\n") (search rules) c.in_err-put_typed.ensures))
 
-pub returns-in_err-put-clause-begun : goal.returns-in_err-put-clause-begun
-returns-in_err-put-clause-begun g c = on_err _ (part_later _ _ _ (named_text (codes "local ") c.args.var.now) ((storage_text c.args.var.now.decl.storage) ++ ((typed_text c.args.number c.args.var.now) ++ (codes "\n"))) c.in_ok-put_named.ensures.gained (part_later _ _ _ (storage_text c.args.var.now.decl.storage) ((typed_text c.args.number c.args.var.now) ++ (codes "\n")) c.in_ok-put_storage.ensures.gained (part_later _ _ _ (typed_text c.args.number c.args.var.now) (codes "\n") c.in_ok-put_typed.ensures.gained (c.in_err-put.ensures.begun))))
+pub returns-in_err-put : goal.returns-in_err-put
+returns-in_err-put g c = puts_then c.in_ok-put_named.ensures (puts_then c.in_ok-put_storage.ensures (puts_then c.in_ok-put_typed.ensures (puts_failed (search rules) c.in_err-put.ensures)))

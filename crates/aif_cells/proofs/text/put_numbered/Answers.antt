@@ -1,9 +1,11 @@
+-- What is put, one after another, and the part of it where a put failed.
+use Rattle.std.proofs.Common.{rules}
 use Rattle.std.specs.Prelude.{decimal}
-use Rattle.aif_cells.proofs.PutLemmas.{on_err, part_first, part_later}
+use Rattle.outside.proofs.PutsLemmas.{puts_failed, puts_first, puts_then}
 use Rattle.aif_cells.proofs.text.put_numbered.Goals as goal
 
-pub returns-in_err-put-clause-begun : goal.returns-in_err-put-clause-begun
-returns-in_err-put-clause-begun g c = on_err _ (part_first _ _ (c.args.letter.now) (decimal c.args.number) c.in_err-put.ensures.begun)
+pub returns-in_err-put : goal.returns-in_err-put
+returns-in_err-put g c = puts_first (decimal c.args.number) (search rules) c.in_err-put.ensures
 
-pub returns-in_err-put_count-clause-begun : goal.returns-in_err-put_count-clause-begun
-returns-in_err-put_count-clause-begun g c = on_err _ (part_later _ _ _ (c.args.letter.now) (decimal c.args.number) c.in_ok-put.ensures.gained (c.in_err-put_count.ensures.begun))
+pub returns-in_err-put_count : goal.returns-in_err-put_count
+returns-in_err-put_count g c = puts_then c.in_ok-put.ensures (puts_failed (search rules) c.in_err-put_count.ensures)

@@ -1,14 +1,15 @@
-use Rattle.std.proofs.Common.{◌++◌}
+-- What is put, one after another, and the part of it where a put failed.
+use Rattle.std.proofs.Common.{rules, ◌++◌}
 use Rattle.std.specs.Prelude.{codes}
-use Rattle.aif_cells.specs.Text.{number_text, texts, typed_text}
-use Rattle.aif_cells.proofs.PutLemmas.{on_err, part_first, part_later}
+use Rattle.aif_cells.specs.Text.{number_text, texts}
+use Rattle.outside.proofs.PutsLemmas.{puts_failed, puts_first, puts_then}
 use Rattle.aif_cells.proofs.text.put_typed_cells.Goals as goal
 
-pub returns-in_err-put_typed-clause-begun : goal.returns-in_err-put_typed-clause-begun
-returns-in_err-put_typed-clause-begun g c = on_err _ (part_first _ _ (typed_text c.args.number c.args.var.now) ((texts (number_text (codes " c")) 0 c.args.cells.now) ++ (codes "\n")) c.in_err-put_typed.ensures.begun)
+pub returns-in_err-put_typed : goal.returns-in_err-put_typed
+returns-in_err-put_typed g c = puts_first ((texts (number_text (codes " c")) 0 c.args.cells.now) ++ (codes "\n")) (search rules) c.in_err-put_typed.ensures
 
-pub returns-in_err-put_value_cells-clause-begun : goal.returns-in_err-put_value_cells-clause-begun
-returns-in_err-put_value_cells-clause-begun g c = on_err _ (part_later _ _ _ (typed_text c.args.number c.args.var.now) ((texts (number_text (codes " c")) 0 c.args.cells.now) ++ (codes "\n")) c.in_ok-put_typed.ensures.gained (part_first _ _ (texts (number_text (codes " c")) 0 c.args.cells.now) (codes "\n") c.in_err-put_value_cells.ensures.begun))
+pub returns-in_err-put_value_cells : goal.returns-in_err-put_value_cells
+returns-in_err-put_value_cells g c = puts_then c.in_ok-put_typed.ensures (puts_first (codes "\n") (search rules) c.in_err-put_value_cells.ensures)
 
-pub returns-in_err-put-clause-begun : goal.returns-in_err-put-clause-begun
-returns-in_err-put-clause-begun g c = on_err _ (part_later _ _ _ (typed_text c.args.number c.args.var.now) ((texts (number_text (codes " c")) 0 c.args.cells.now) ++ (codes "\n")) c.in_ok-put_typed.ensures.gained (part_later _ _ _ (texts (number_text (codes " c")) 0 c.args.cells.now) (codes "\n") c.in_ok-put_value_cells.ensures.gained (c.in_err-put.ensures.begun)))
+pub returns-in_err-put : goal.returns-in_err-put
+returns-in_err-put g c = puts_then c.in_ok-put_typed.ensures (puts_then c.in_ok-put_value_cells.ensures (puts_failed (search rules) c.in_err-put.ensures))

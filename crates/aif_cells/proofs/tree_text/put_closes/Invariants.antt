@@ -1,9 +1,7 @@
-use Rattle.std.proofs.Common.{◌≤◌}
-use Rattle.aif_cells.specs.Put.{Put, closes}
+use Rattle.std.proofs.Common.{Ok}
+use Rattle.outside.specs.Puts.{Puts}
+use Rattle.aif_cells.specs.Put.{closes}
 use Rattle.aif_cells.proofs.tree_text.put_closes.Given as goal
 
 abbrev pub invariant-loop-at : goal.invariant-loop-at
-invariant-loop-at g l = record {
-  never_falls : g.O.Sink.faults l.initial.out ≤ g.O.Sink.faults l.out;
-  gained : Put (g.O.Sink.stands l.initial.out) (g.O.Sink.stands l.out) (closes l._at);
-}
+invariant-loop-at g l = Puts g.O.Sink.stands g.O.Sink.faults (Ok tt) l.initial.out l.out (closes l._at)

@@ -12,8 +12,8 @@ use Rattle.aif_cells.proofs.valuation.+worth.Goals as goal
 pub worth_of-returns-in-Sel : goal.worth_of-returns-in-Sel
 worth_of-returns-in-Sel t c =
     let e : c.worth_of-index.result ≡ worth (listed c.args.inputs.now c.args.registers.now c.args.cells.now) (tree c.in-Sel.index.value) = search rules in
-    let f : c.selected.result ≡ element_at (map (λ t. worth (listed c.args.inputs.now c.args.registers.now c.args.cells.now) (tree t)) c.in-Sel.items.items) c.worth_of-index.result = search rules in
-    to_z-of_z w64 c.selected.result (record { sfits = c.selected.type_inv }) ∙ worth_sel (listed c.args.inputs.now c.args.registers.now c.args.cells.now) c.args.t.now c.in-Sel.index c.in-Sel.items c.worth_of-index.result c.selected.result c.in-Sel.is e f
+    let f : c.select.result ≡ element_at (map (λ t. worth (listed c.args.inputs.now c.args.registers.now c.args.cells.now) (tree t)) c.in-Sel.items.items) c.worth_of-index.result = search rules in
+    to_z-of_z w64 c.select.result (record { sfits = c.select.type_inv }) ∙ worth_sel (listed c.args.inputs.now c.args.registers.now c.args.cells.now) c.args.t.now c.in-Sel.index c.in-Sel.items c.worth_of-index.result c.select.result c.in-Sel.is e f
 
 pub worth_of-returns-in-Some : goal.worth_of-returns-in-Some
 worth_of-returns-in-Some t c =

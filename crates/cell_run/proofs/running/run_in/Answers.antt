@@ -53,7 +53,7 @@ returns-in-Err-write_step-clause-told g c = λ vs body x trace e.
     write_failed vs body c.args.aif.now x c.args.order.now.cells c.requires.order order_solves c.args.most_steps zero trace c.loop-step.step ks
     c.loop-step.room.reader.trail c.read_step.new.room.reader.trail zs _ _ _ _ _ _ _ _ (g.O.Sink.stands c.write_step.new.out) so_far
     cells c.in_default-react.ensures.solution c.in_default.ensures.came c.loop-step-test.true c.in_default-react.ensures.fault
-    (subst (GainsBegun (g.O.Sink.stands c.loop-step.out) (g.O.Sink.stands c.write_step.new.out)) line c.in-Err-write_step.ensures.begun)
+    (subst (GainsBegun (g.O.Sink.stands c.loop-step.out) (g.O.Sink.stands c.write_step.new.out)) line c.in-Err-write_step.ensures.puts.begun)
 
 pub loop-step-preserved : goal.loop-step-preserved
 loop-step-preserved g c = record {
@@ -90,7 +90,7 @@ loop-step-preserved g c = record {
       (one_more_step vs body c.args.aif.now x c.args.order.now.cells c.requires.order order_solves c.args.most_steps zero trace c.loop-step.step ks
       c.loop-step.room.reader.trail c.read_step.new.room.reader.trail zs _ _ _ _ _ _ _ _ (g.O.Sink.stands c.write_step.new.out) so_far
       cells c.in_default-react.ensures.solution c.in_default.ensures.came c.loop-step-test.true c.in_default-react.ensures.fault
-      (subst (Gains (g.O.Sink.stands c.loop-step.out) (g.O.Sink.stands c.write_step.new.out)) line c.in_default-write_step.ensures.gained))));
+      (subst (Gains (g.O.Sink.stands c.loop-step.out) (g.O.Sink.stands c.write_step.new.out)) line c.in_default-write_step.ensures.puts.gained))));
 }
 
 pub returns-in-Ok-clause-told : goal.returns-in-Ok-clause-told

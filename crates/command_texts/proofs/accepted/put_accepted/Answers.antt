@@ -1,32 +1,16 @@
--- What failed puts leave behind the puts before them.
-use Rattle.std.proofs.Common.{◌++◌}
-use Rattle.std.specs.Prelude.{codes}
-use Rattle.outside.specs.Report.{line_end}
-use Rattle.outside.proofs.GainsLemmas.{begun_first, begun_next, on_begun, sure}
-use Rattle.command_texts.specs.Texts.{counted_text}
+-- The puts one after another, each with what was put before it.
+use Rattle.std.proofs.Common.{rules}
+use Rattle.outside.proofs.PutsLemmas.{puts_first, puts_then}
 use Rattle.command_texts.proofs.accepted.put_accepted.Goals as goal
 
-pub returns-in_err-put_counted-clause-begun : goal.returns-in_err-put_counted-clause-begun
-returns-in_err-put_counted-clause-begun g c =
-    sure c.from_residual.result _ (begun_first (g.O.Sink.stands c.args.out.now) (g.O.Sink.stands c.put_counted.new.out) (counted_text (codes "accepted cells ") c.args.cells)
-    (counted_text (codes " registers ") c.args.registers ++ (counted_text (codes " loose ") c.args.loose ++ line_end)) c.in_err-put_counted.ensures.begun)
+pub returns-in_err-put_counted : goal.returns-in_err-put_counted
+returns-in_err-put_counted g c = puts_first _ (search rules) c.in_err-put_counted.ensures
 
-pub returns-in_err-put_counted-2-clause-begun : goal.returns-in_err-put_counted-2-clause-begun
-returns-in_err-put_counted-2-clause-begun g c =
-    sure c.from_residual-in_err-put_counted-2.result _ (begun_next (g.O.Sink.stands c.args.out.now) (g.O.Sink.stands c.put_counted.new.out) (g.O.Sink.stands c.put_counted-2.new.out)
-    (counted_text (codes "accepted cells ") c.args.cells) (counted_text (codes " registers ") c.args.registers ++ (counted_text (codes " loose ") c.args.loose ++ line_end)) c.in_ok-put_counted.ensures.gained
-    (begun_first (g.O.Sink.stands c.put_counted.new.out) (g.O.Sink.stands c.put_counted-2.new.out) (counted_text (codes " registers ") c.args.registers) (counted_text (codes " loose ") c.args.loose ++ line_end) c.in_err-put_counted-2.ensures.begun))
+pub returns-in_err-put_counted-2 : goal.returns-in_err-put_counted-2
+returns-in_err-put_counted-2 g c = puts_then c.in_ok-put_counted.ensures (puts_first _ (search rules) c.in_err-put_counted-2.ensures)
 
-pub returns-in_err-put_counted-3-clause-begun : goal.returns-in_err-put_counted-3-clause-begun
-returns-in_err-put_counted-3-clause-begun g c =
-    sure c.from_residual-in_err-put_counted-3.result _ (begun_next (g.O.Sink.stands c.args.out.now) (g.O.Sink.stands c.put_counted.new.out) (g.O.Sink.stands c.put_counted-3.new.out)
-    (counted_text (codes "accepted cells ") c.args.cells) (counted_text (codes " registers ") c.args.registers ++ (counted_text (codes " loose ") c.args.loose ++ line_end)) c.in_ok-put_counted.ensures.gained
-    (begun_next (g.O.Sink.stands c.put_counted.new.out) (g.O.Sink.stands c.put_counted-2.new.out) (g.O.Sink.stands c.put_counted-3.new.out) (counted_text (codes " registers ") c.args.registers) (counted_text (codes " loose ") c.args.loose ++ line_end) c.in_ok-put_counted-2.ensures.gained
-    (begun_first (g.O.Sink.stands c.put_counted-2.new.out) (g.O.Sink.stands c.put_counted-3.new.out) (counted_text (codes " loose ") c.args.loose) line_end c.in_err-put_counted-3.ensures.begun)))
+pub returns-in_err-put_counted-3 : goal.returns-in_err-put_counted-3
+returns-in_err-put_counted-3 g c = puts_then c.in_ok-put_counted.ensures (puts_then c.in_ok-put_counted-2.ensures (puts_first _ (search rules) c.in_err-put_counted-3.ensures))
 
-pub returns-clause-begun : goal.returns-clause-begun
-returns-clause-begun g c =
-    on_begun c.put_whole.result (g.O.Sink.stands c.args.out.now) (g.O.Sink.stands c.put_counted.new.out) (g.O.Sink.stands c.put_whole.new.out)
-    (counted_text (codes "accepted cells ") c.args.cells) (counted_text (codes " registers ") c.args.registers ++ (counted_text (codes " loose ") c.args.loose ++ line_end)) c.in_ok-put_counted.ensures.gained
-    (on_begun c.put_whole.result (g.O.Sink.stands c.put_counted.new.out) (g.O.Sink.stands c.put_counted-2.new.out) (g.O.Sink.stands c.put_whole.new.out) (counted_text (codes " registers ") c.args.registers) (counted_text (codes " loose ") c.args.loose ++ line_end) c.in_ok-put_counted-2.ensures.gained
-    (on_begun c.put_whole.result (g.O.Sink.stands c.put_counted-2.new.out) (g.O.Sink.stands c.put_counted-3.new.out) (g.O.Sink.stands c.put_whole.new.out) (counted_text (codes " loose ") c.args.loose) line_end c.in_ok-put_counted-3.ensures.gained c.put_whole.ensures.begun))
+pub returns : goal.returns
+returns g c = puts_then c.in_ok-put_counted.ensures (puts_then c.in_ok-put_counted-2.ensures (puts_then c.in_ok-put_counted-3.ensures c.put_whole.ensures))

@@ -1,10 +1,10 @@
--- What a failed put leaves behind the put before it.
+-- The puts one after another, each with what was put before it.
 use Rattle.std.proofs.Common.{rules}
-use Rattle.std.specs.Prelude.{decimal}
-use Rattle.outside.proofs.GainsLemmas.{on_begun}
+use Rattle.outside.proofs.PutsLemmas.{puts_first, puts_same, puts_then}
 use Rattle.command_texts.proofs.number.put_counted.Goals as goal
 
-pub returns-clause-begun : goal.returns-clause-begun
-returns-clause-begun g c =
-    on_begun c.put_whole-2.result (g.O.Sink.stands c.args.out.now) (g.O.Sink.stands c.put_whole.new.out) (g.O.Sink.stands c.put_whole-2.new.out) c.args.text.now (decimal c.args.number) c.in_ok-put_whole.ensures.gained
-    (search rules)
+pub returns-in_err-put_whole : goal.returns-in_err-put_whole
+returns-in_err-put_whole g c = puts_first _ (search rules) c.in_err-put_whole.ensures
+
+pub returns : goal.returns
+returns g c = puts_then c.in_ok-put_whole.ensures ((puts_same (search rules) c.put_whole-2.ensures))

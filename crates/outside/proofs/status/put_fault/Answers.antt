@@ -1,13 +1,13 @@
--- What failed puts leave behind the puts before them.
-use Rattle.outside.proofs.GainsLemmas.{begun_first, begun_next, sure, on_begun}
+-- The puts one after another, each with what was put before it.
+use Rattle.std.proofs.Common.{rules}
+use Rattle.outside.proofs.PutsLemmas.{puts_first, puts_then}
 use Rattle.outside.proofs.status.put_fault.Goals as goal
 
-pub returns-in_err-put_whole-2-clause-begun : goal.returns-in_err-put_whole-2-clause-begun
-returns-in_err-put_whole-2-clause-begun g c =
-    sure c.from_residual-in_err-put_whole-2.result _ (begun_next (g.E.Sink.stands c.args.report.now) (g.E.Sink.stands c.put_whole.new.out) (g.E.Sink.stands c.put_whole-2.new.out) c.args.text.now _ c.in_ok-put_whole.ensures.gained
-    (begun_first (g.E.Sink.stands c.put_whole.new.out) (g.E.Sink.stands c.put_whole-2.new.out) _ _ (rw c.kind_text.ensures at c.in_err-put_whole-2.ensures.begun)))
+pub returns-in_err-put_whole : goal.returns-in_err-put_whole
+returns-in_err-put_whole g c = puts_first _ (search rules) c.in_err-put_whole.ensures
 
-pub returns-clause-begun : goal.returns-clause-begun
-returns-clause-begun g c =
-    on_begun c.put_number_at.result (g.E.Sink.stands c.args.report.now) (g.E.Sink.stands c.put_whole.new.out) (g.E.Sink.stands c.put_number_at.new.report) c.args.text.now _ c.in_ok-put_whole.ensures.gained
-    (on_begun c.put_number_at.result (g.E.Sink.stands c.put_whole.new.out) (g.E.Sink.stands c.put_whole-2.new.out) (g.E.Sink.stands c.put_number_at.new.report) _ _ (rw c.kind_text.ensures at c.in_ok-put_whole-2.ensures.gained) c.put_number_at.ensures.begun)
+pub returns-in_err-put_whole-2 : goal.returns-in_err-put_whole-2
+returns-in_err-put_whole-2 g c = puts_then c.in_ok-put_whole.ensures (puts_first _ (search rules) (rw c.kind_text.ensures at c.in_err-put_whole-2.ensures))
+
+pub returns : goal.returns
+returns g c = puts_then c.in_ok-put_whole.ensures (puts_then (rw c.kind_text.ensures at c.in_ok-put_whole-2.ensures) c.put_number_at.ensures)

@@ -1,20 +1,16 @@
--- What failed puts leave behind the puts before them.
-use Rattle.outside.proofs.GainsLemmas.{begun_first, begun_next, sure, on_begun}
+-- The puts one after another, each with what was put before it.
+use Rattle.std.proofs.Common.{rules}
+use Rattle.outside.proofs.PutsLemmas.{puts_first, puts_then}
 use Rattle.outside.proofs.status.put_number_at.Goals as goal
 
-pub returns-in_err-put_number-clause-begun : goal.returns-in_err-put_number-clause-begun
-returns-in_err-put_number-clause-begun g c =
-    sure c.from_residual-in_err-put_number.result _ (begun_next (g.E.Sink.stands c.args.report.now) (g.E.Sink.stands c.put_whole.new.out) (g.E.Sink.stands c.put_number.new.report) c.args.text.now _ c.in_ok-put_whole.ensures.gained
-    (begun_first (g.E.Sink.stands c.put_whole.new.out) (g.E.Sink.stands c.put_number.new.report) _ _ c.in_err-put_number.ensures.begun))
+pub returns-in_err-put_whole : goal.returns-in_err-put_whole
+returns-in_err-put_whole g c = puts_first _ (search rules) c.in_err-put_whole.ensures
 
-pub returns-in_err-put_whole-2-clause-begun : goal.returns-in_err-put_whole-2-clause-begun
-returns-in_err-put_whole-2-clause-begun g c =
-    sure c.from_residual-in_err-put_whole-2.result _ (begun_next (g.E.Sink.stands c.args.report.now) (g.E.Sink.stands c.put_whole.new.out) (g.E.Sink.stands c.put_whole-2.new.out) c.args.text.now _ c.in_ok-put_whole.ensures.gained
-    (begun_next (g.E.Sink.stands c.put_whole.new.out) (g.E.Sink.stands c.put_number.new.report) (g.E.Sink.stands c.put_whole-2.new.out) _ _ c.in_ok-put_number.ensures.gained
-    (begun_first (g.E.Sink.stands c.put_number.new.report) (g.E.Sink.stands c.put_whole-2.new.out) _ _ c.in_err-put_whole-2.ensures.begun)))
+pub returns-in_err-put_number : goal.returns-in_err-put_number
+returns-in_err-put_number g c = puts_then c.in_ok-put_whole.ensures (puts_first _ (search rules) c.in_err-put_number.ensures)
 
-pub returns-clause-begun : goal.returns-clause-begun
-returns-clause-begun g c =
-    on_begun c.put_place.result (g.E.Sink.stands c.args.report.now) (g.E.Sink.stands c.put_whole.new.out) (g.E.Sink.stands c.put_place.new.report) c.args.text.now _ c.in_ok-put_whole.ensures.gained
-    (on_begun c.put_place.result (g.E.Sink.stands c.put_whole.new.out) (g.E.Sink.stands c.put_number.new.report) (g.E.Sink.stands c.put_place.new.report) _ _ c.in_ok-put_number.ensures.gained
-    (on_begun c.put_place.result (g.E.Sink.stands c.put_number.new.report) (g.E.Sink.stands c.put_whole-2.new.out) (g.E.Sink.stands c.put_place.new.report) _ _ c.in_ok-put_whole-2.ensures.gained c.put_place.ensures.begun))
+pub returns-in_err-put_whole-2 : goal.returns-in_err-put_whole-2
+returns-in_err-put_whole-2 g c = puts_then c.in_ok-put_whole.ensures (puts_then c.in_ok-put_number.ensures (puts_first _ (search rules) c.in_err-put_whole-2.ensures))
+
+pub returns : goal.returns
+returns g c = puts_then c.in_ok-put_whole.ensures (puts_then c.in_ok-put_number.ensures (puts_then c.in_ok-put_whole-2.ensures c.put_place.ensures))

@@ -11,6 +11,6 @@ returns-then-is_mark c = λ p k.
 
 pub returns-else-is_mark : goal.returns-else-is_mark
 returns-else-is_mark c = λ p k.
-    ap (λ ds. course c.typed.result c.args.header.now.name ds k) c.new.ensures.items
-    ∙ c.typed.ensures c.args.header.now.name [] p k
+    ap (λ ds. course c.begin_param.result c.args.header.now.name ds k) c.new.ensures.items
+    ∙ c.begin_param.ensures c.args.header.now.name [] p k
     ∙ first_goes (params_next c.args.header.now.name k) (token c.args.item p) (sym (c.is_mark.ensures p) ∙ c.if-is_mark.false)

@@ -15,6 +15,6 @@ returns-then-is_mark-2 c = λ x ds p k.
 
 pub returns-else-is_mark-2 : goal.returns-else-is_mark-2
 returns-else-is_mark-2 c = λ x ds p k.
-    c.typed.ensures x ds p k
+    c.begin_param.ensures x ds p k
     ∙ flow_none c.args.last (param_more ds (params_next x k)) (token c.args.item p) (head_on (λ ty. flow ty (param_more ds (params_next x k))) (token c.args.item p) None)
     (sym (c.is_mark.ensures p) ∙ c.if-is_mark.false) (sym (c.is_mark-else-is_mark.ensures p) ∙ c.if-is_mark-2.false)

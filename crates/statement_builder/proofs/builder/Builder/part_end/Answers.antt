@@ -6,4 +6,4 @@ pub returns-then-labels-eq0 : goal.returns-then-labels-eq0
 returns-then-labels-eq0 c = no_part_end c.args.self.now c.args.label c.args.labels c.args.end _ (omega arith) (search rules)
 
 pub returns : goal.returns
-returns c = one_part_end c.args.self.now c.ended_or_at_rest.new.self c.args.label c.args.labels c.args.end c.in_ok-made.made c.in_ok-alone.alone (λ e. omega arith) c.in_ok-made.ensures (search rules)
+returns c = one_part_end c.args.self.now c.end_or_rest.new.self c.args.label c.args.labels c.args.end c.in_ok-made.made c.in_ok-alone.alone (λ e. omega arith) c.in_ok-made.ensures (search rules)

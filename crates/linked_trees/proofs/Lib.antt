@@ -1,0 +1,10 @@
+pub mod CallLemmas
+pub mod DotLemmas
+pub mod InnerLemmas
+pub mod LawLemmas
+pub mod LinkLemmas
+pub mod NameLemmas
+pub mod PlainLemmas
+pub mod ScopeLemmas
+pub mod TheoremLemmas
+pub mod UncalledLemmas

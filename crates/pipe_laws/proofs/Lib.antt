@@ -1,0 +1,11 @@
+pub mod Counts
+pub mod Stuck
+pub mod Kept
+pub mod Spans
+pub mod Tied
+pub mod FlowLemmas
+pub mod CountLemmas
+pub mod WorldLemmas
+pub mod SlotLemmas
+pub mod Popping
+pub mod PlayLemmas

@@ -1,5 +1,0 @@
-use Rattle.sos_rows.proofs.FitLemmas.{FitsUpto}
-use Rattle.sos_rows.proofs.fitting.fits.Given as goal
-
-abbrev pub invariant-loop-at : goal.invariant-loop-at
-invariant-loop-at l = FitsUpto l.vars l.env.values l.at

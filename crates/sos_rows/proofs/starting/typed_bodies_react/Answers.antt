@@ -1,5 +1,0 @@
-use Rattle.sos_rows.proofs.ReactLemmas.{typed_can_react}
-use Rattle.sos_rows.proofs.starting.typed_bodies_react.Goals as goal
-
-pub returns : goal.returns
-returns c = typed_can_react

@@ -1,5 +1,0 @@
-use Rattle.stage_cut.proofs.tests.+least_of_all.Given as goal
-
--- each division of the others has one stage fewer
-abbrev pub decreases-least_of_all : goal.decreases-least_of_all
-decreases-least_of_all l = l.stages
