@@ -1,0 +1,4 @@
+pub mod DerivedLemmas
+pub mod DerivingLemmas
+pub mod LexingLemmas
+pub mod NameLemmas
