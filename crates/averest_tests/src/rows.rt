@@ -190,17 +190,62 @@ trace: 1 0\n1 1\n
 status: 3
 report: averest: refused S0 at 1:1\n
 
-words: convert Absent --to 2
-text: module M(bool ?x, ?y, !a) { always { a = x & !y; } }
-trace: 1 0\n1 1\n
-status: 3
-report: averest: refused S0 at 1:1\n
-
 words: verify Absent
 text: module M(bool ?x, ?y, !a) { always { a = x & !y; } }
 trace: 1 0\n1 1\n
 status: 3
 report: averest: refused S0 at 1:1\n
+
+# traces written anew
+words: convert Absent --to 2
+text: module M(bool ?x, ?y, !a) { always { a = x & !y; } }
+trace: 1 0\n1 1\n
+status: 2
+report: averest: module unavailable\n
+
+words: convert M --to 2
+text: module C(bool ?x, bool ?y, bool !a) { always { a = x; || a = y; } }
+trace: 1 1\n1 0\n0 0\n
+status: 0
+output: # x y\n1 1\n_ 0\n0 _\n
+
+words: convert M --to 1
+text: module C(bool ?x, bool ?y, bool !a) { always { a = x; || a = y; } }
+trace: # x y\n1 1\n_ 0\n0 _\n
+status: 0
+output: 1 1\n1 0\n0 0\n
+
+words: convert M --to=1
+text: module C(bool ?x, bool ?y, bool !a) { always { a = x; || a = y; } }
+trace: # y\n1\n_
+status: 0
+output: 0 1\n0 1\n
+
+words: convert M --to 2
+text: module C(bool ?x, bool ?y, bool !a) { always { a = x; || a = y; } }
+status: 0
+output: # x y\n
+
+words: convert M --to 2
+text: module C(bool ?x, bool ?y, bool !a) { always { a = x; || a = y; } }
+trace: 1 0\n2 0\n0 0\n
+status: 4
+output: # x y\n1 _\n
+report: averest: bad input at step 1\n
+
+words: convert M --to 2
+text: module C(bool ?x, bool ?y, bool !a) { always { a = x; || a = y; } }
+trace: 1 0\n
+takes: 0
+status: 6
+output: # x y\n
+report: averest: read fault\n
+
+words: convert M --to 1
+text: module C(bool ?x, bool ?y, bool !a) { always { a = z; } }
+trace: 1 0\n
+status: 3
+report: averest: refused S3 at 1:52\n
 
 # words that are none
 words: plan M

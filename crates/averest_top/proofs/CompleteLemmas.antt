@@ -7,11 +7,11 @@ use Rattle.outside.specs.declared.status.Status.{Status}
 use Rattle.trace_io.specs.Lines.{joined_lines}
 use Rattle.trace_io.specs.Story.{End, Story}
 use Rattle.cell_run.specs.Told.{status_of}
-use Rattle.quartz_build.specs.Broken.{IsAccepted}
+use Rattle.quartz_build.specs.Broken.{Cells, IsAccepted}
 use Rattle.text_laws.proofs.StoryLemmas.{stories_are_one}
 use Rattle.averest_top.specs.Promise.{HasTold, Outcome}
 
-pub has_told : (text : List ℕ) (m : ModuleTree) (trace : List ℕ) (greatest : ℕ) (before after : List ℕ → Type 0) (left : Option (List ℕ)) (shelf input out : Type 0) (s : Status) → IsAccepted false text m
+pub has_told : (text : List ℕ) (m : ModuleTree) (trace : List ℕ) (greatest : ℕ) (before after : List ℕ → Type 0) (left : Option (List ℕ)) (shelf input out : Type 0) (s : Status) → IsAccepted Cells text m
     → Outcome (resolved_vars m) (resolved_body m) trace greatest before after left shelf input out s → ¬ shelf → ¬ input → ¬ out
     → (written : List (List ℕ)) (e : End) → Story (resolved_vars m) (resolved_body m) trace greatest written e → HasTold before after written e s
 has_told text m trace greatest before after left shelf input out s accepted (inl (inl none)) no_shelf no_input no_out written e h = inl none

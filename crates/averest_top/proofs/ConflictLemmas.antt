@@ -12,7 +12,7 @@ use Rattle.outside.specs.declared.status.Status.TheVariants.{RunFault}
 use Rattle.trace_io.specs.Story.{End, Story, done, bad, limit, fault}
 use Rattle.cell_run.specs.Told.{status_of}
 use Rattle.loose_runs.specs.Laws.{FlaggedAt}
-use Rattle.quartz_build.specs.Broken.{IsAccepted, term_in}
+use Rattle.quartz_build.specs.Broken.{Cells, IsAccepted, Strict, term_in}
 use Rattle.text_laws.proofs.ConflictLemmas.{stories_end_flagged, strict_stories_have_no_conflict}
 use Rattle.averest_top.specs.Promise.{Outcome}
 
@@ -43,21 +43,18 @@ module _ (vs : Vars) (body : Kernel) (trace : List ℕ) (greatest k : ℕ) (p : 
   conflict_in before after left shelf input out s (inr (inr (inl write))) e = let is = write.0 in absurd (cc)
   conflict_in before after left shelf input out s (inr (inr (inr told))) e = by_end told.written told.end told.story (sym e ∙ told.ends)
 
-pub conflict_flagged : (text : List ℕ) (m : ModuleTree) (trace : List ℕ) (greatest k : ℕ) (p : Place) (before after : List ℕ → Type 0) (left : Option (List ℕ)) (shelf input out : Type 0) (s : Status) → IsAccepted false text m
+pub conflict_flagged : (text : List ℕ) (m : ModuleTree) (trace : List ℕ) (greatest k : ℕ) (p : Place) (before after : List ℕ → Type 0) (left : Option (List ℕ)) (shelf input out : Type 0) (s : Status) → IsAccepted Cells text m
     → Outcome (resolved_vars m) (resolved_body m) trace greatest before after left shelf input out s → s ≡ RunFault k Conflict p → FlaggedAt (resolved_vars m) (term_in m) p
 conflict_flagged text m trace greatest k p before after left shelf input out s accepted o e =
     let c = conflict_in (resolved_vars m) (resolved_body m) trace greatest k p before after left shelf input out s o e in
     subst (FlaggedAt (resolved_vars m) (term_in m)) c.place_is (stories_end_flagged text m trace greatest c.written k c.found accepted c.story c.kind_is)
 
-pub never_conflict : (text : List ℕ) (m : ModuleTree) (trace : List ℕ) (greatest k : ℕ) (p : Place) (before after : List ℕ → Type 0) (left : Option (List ℕ)) (shelf input out : Type 0) (s : Status) → IsAccepted true text m
+pub never_conflict : (text : List ℕ) (m : ModuleTree) (trace : List ℕ) (greatest k : ℕ) (p : Place) (before after : List ℕ → Type 0) (left : Option (List ℕ)) (shelf input out : Type 0) (s : Status) → IsAccepted Strict text m
     → Outcome (resolved_vars m) (resolved_body m) trace greatest before after left shelf input out s → s ≡ RunFault k Conflict p → ⊥
 never_conflict text m trace greatest k p before after left shelf input out s accepted o e =
     let c = conflict_in (resolved_vars m) (resolved_body m) trace greatest k p before after left shelf input out s o e in
     strict_stories_have_no_conflict text m trace greatest c.written k c.found accepted c.story c.kind_is
 
--- a text that is accepted where loose pairs are refused is accepted
-pub accepted_anyhow : (text : List ℕ) (m : ModuleTree) → IsAccepted true text m → IsAccepted false text m
-accepted_anyhow text m a = record { typed = a.typed; good = record { fits = a.good.fits; acyclic = a.good.acyclic; tight = λ e. absurd (true_not_false (sym e)) } }
-  where
-    true_not_false : true ≡ false → ⊥
-    true_not_false h = cc
+-- a text that is accepted strictly is accepted
+pub accepted_anyhow : (text : List ℕ) (m : ModuleTree) → IsAccepted Strict text m → IsAccepted Cells text m
+accepted_anyhow text m a = record { typed = a.typed; good = a.good.0 }

@@ -12,6 +12,7 @@ use Rattle.averest_top.specs.declared.task.Task.{Task}
 use Rattle.averest_top.specs.declared.task.Task.TheVariants as task
 use Rattle.averest_top.specs.Commands.{asked_in, module_in, task_in, task_meant}
 use Rattle.averest_top.specs.Promise.{CanCome, ComesBefore, refusal_status}
+use Rattle.convert_run.specs.Told.{IsOfConvert}
 use Rattle.averest_top.specs.Tasks.{EndsAs, IsOfTask}
 
 pub run_ends : (most : ℕ) (s : Status) → IsOfTask s → EndsAs (task.Run most) s
@@ -39,6 +40,25 @@ load_ends seed steps Usage o r = absurd o
 load_ends seed steps ModuleUnavailable o r = absurd o
 load_ends seed steps (Refused q p) o r = absurd o
 load_ends seed steps (BadWitness k) o r = absurd o
+
+-- the ends of converting are ends of a task, and of this one
+module _ (to : ℕ) where
+  converted : (s : Status) → IsOfConvert s → IsOfTask s × EndsAs (task.Convert to) s
+  converted status.Ok o = (tt, tt)
+  converted (BadInput k) o = (tt, tt)
+  converted ReadFault o = (tt, tt)
+  converted WriteFault o = (tt, tt)
+  converted StepLimit o = (tt, tt)
+  converted (RunFault k q p) o = absurd o
+  converted NoMemory o = absurd o
+  converted Usage o = absurd o
+  converted ModuleUnavailable o = absurd o
+  converted (Refused q p) o = absurd o
+  converted (BadWitness k) o = absurd o
+
+  pub convert_ends : (s : Status) → (s ≡ NoMemory) ⊎ IsOfConvert s → IsOfTask s × EndsAs (task.Convert to) s
+  convert_ends s (inl e) = subst (λ (n : Status). IsOfTask n × EndsAs (task.Convert to) n) (sym e) (tt, tt)
+  convert_ends s (inr o) = converted s o
 
 -- a text that is put, or not
 pub written_ends : (t : Task) (s : Status) → (s ≡ status.Ok) ⊎ (s ≡ WriteFault) → EndsAs t s

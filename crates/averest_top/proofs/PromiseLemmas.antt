@@ -11,26 +11,27 @@ use Rattle.outside.specs.declared.status.Status.TheVariants as status
 use Rattle.quartz_build.specs.declared.fault.BuildFault.{BuildFault}
 use Rattle.quartz_build.specs.declared.fault.BuildFault.TheVariants as fault
 use Rattle.quartz_build.specs.declared.building.Built.{Built}
-use Rattle.quartz_build.specs.Broken.{IsAccepted, Refuses}
+use Rattle.quartz_build.specs.Broken.{Cells, IsAccepted, Refuses, scrutiny_of}
 use Rattle.quartz_build.specs.Parts.{BuildsAs}
 use Rattle.quartz_build.proofs.OneLemmas.{not_refused, one_module, one_refusal}
 use Rattle.averest_top.specs.declared.task.Task.{Task}
 use Rattle.averest_top.specs.declared.task.Task.TheVariants as task
-use Rattle.averest_top.specs.Commands.{is_strict_in, wants_pairs_in}
-use Rattle.averest_top.specs.Tasks.{Does, IsOfTask, RunsAs}
-use Rattle.averest_top.specs.Promise.{ComesBefore, HasText, IsDone, IsExcused, LacksText, OfText, Outcome, refusal_status}
+use Rattle.averest_top.specs.Commands.{is_strict_in, scrutiny_in, wants_pairs_in}
+use Rattle.trace_writer.specs.Anew.{format_of}
+use Rattle.averest_top.specs.Tasks.{ConvertsAs, Does, IsOfTask, RunsAs}
+use Rattle.averest_top.specs.Promise.{ComesBefore, HasText, IsDone, IsExcused, LacksText, NewOutcome, OfText, Outcome, refusal_status}
 
 module _ (text : List ℕ) (t : Task) (left left' : Option (List ℕ)) (before after : List ℕ → Type 0) (shelf input out : Type 0) where
   abbrev IsOf : Status → Type 0
   IsOf s = OfText text t left left' before after shelf input out s
 
   -- a text that isn't built
-  pub refused_text : (wants : Bool) (f : BuildFault) → BuildsAs (is_strict_in t) wants text (Err f) → IsOf (refusal_status f)
+  pub refused_text : (wants : Bool) (f : BuildFault) → BuildsAs (scrutiny_in t) wants text (Err f) → IsOf (refusal_status f)
   refused_text wants (fault.Refused r p) h = h
   refused_text wants fault.NoMemory h = tt
 
   -- a task that was done
-  pub done_text : (m : ModuleTree) (s : Status) → IsAccepted (is_strict_in t) text m → IsOfTask s → (s ≡ NoMemory) ⊎ Does t m left left' before after input out s → IsOf s
+  pub done_text : (m : ModuleTree) (s : Status) → IsAccepted (scrutiny_in t) text m → IsOfTask s → (s ≡ NoMemory) ⊎ Does t m left left' before after input out s → IsOf s
   done_text m s a o (inl e) = subst IsOf (sym e) tt
   done_text m status.Ok a o (inr d) = (m, a, d)
   done_text m (BadInput k) a o (inr d) = (m, a, d)
@@ -44,18 +45,18 @@ module _ (text : List ℕ) (t : Task) (left left' : Option (List ℕ)) (before a
   done_text m (Refused q p) a o d = absurd o
   done_text m (BadWitness k) a o d = absurd o
 
-  not_both : (m : ModuleTree) (r : ℕ) (p : Place) {X : Type 0} → IsAccepted (is_strict_in t) text m → Refuses (is_strict_in t) text r p → X
-  not_both m r p a h = absurd (not_refused (is_strict_in t) text m r p a h)
+  not_both : (m : ModuleTree) (r : ℕ) (p : Place) {X : Type 0} → IsAccepted (scrutiny_in t) text m → Refuses (scrutiny_in t) text r p → X
+  not_both m r p a h = absurd (not_refused (scrutiny_in t) text m r p a h)
 
   -- a text is refused exactly by its rule
-  pub refused_exactly : (s : Status) → IsOf s → (r : ℕ) (p : Place) → (s ≡ Refused r p → Refuses (is_strict_in t) text r p) × (Refuses (is_strict_in t) text r p → (s ≡ Refused r p) ⊎ IsExcused s shelf)
+  pub refused_exactly : (s : Status) → IsOf s → (r : ℕ) (p : Place) → (s ≡ Refused r p → Refuses (scrutiny_in t) text r p) × (Refuses (scrutiny_in t) text r p → (s ≡ Refused r p) ⊎ IsExcused s shelf)
   refused_exactly s o r p = (λ e. subst IsOf e o, exactly s o)
     where
-      exactly : (s : Status) → IsOf s → Refuses (is_strict_in t) text r p → (s ≡ Refused r p) ⊎ IsExcused s shelf
+      exactly : (s : Status) → IsOf s → Refuses (scrutiny_in t) text r p → (s ≡ Refused r p) ⊎ IsExcused s shelf
       exactly NoMemory o h = inr (inl refl)
       exactly ModuleUnavailable o h = inr (inr (refl, o))
       exactly (Refused q z) o h =
-          let same = one_refusal (is_strict_in t) text q r z p o h in
+          let same = one_refusal (scrutiny_in t) text q r z p o h in
           inl (ap₂ (λ (a : ℕ) (b : Place). Refused a b) same.0 same.1)
       exactly Usage o h = absurd o
       exactly ReadFault o h = not_both o.0 r p o.1 h
@@ -67,7 +68,7 @@ module _ (text : List ℕ) (t : Task) (left left' : Option (List ℕ)) (before a
       exactly (BadWitness k) o h = not_both o.0 r p o.1 h
 
   -- with a status behind the build the text is accepted
-  pub accepted_else : (s : Status) → IsOf s → ComesBefore s ⊎ ((m : ModuleTree) × IsAccepted (is_strict_in t) text m)
+  pub accepted_else : (s : Status) → IsOf s → ComesBefore s ⊎ ((m : ModuleTree) × IsAccepted (scrutiny_in t) text m)
   accepted_else NoMemory o = inl tt
   accepted_else ModuleUnavailable o = inl tt
   accepted_else (Refused q z) o = inl tt
@@ -81,11 +82,11 @@ module _ (text : List ℕ) (t : Task) (left left' : Option (List ℕ)) (before a
   accepted_else (BadWitness k) o = inr (o.0, o.1)
 
   -- and a text that is accepted has its task done
-  pub accepted_does : (s : Status) → IsOf s → (m : ModuleTree) → IsAccepted (is_strict_in t) text m → IsExcused s shelf ⊎ Does t m left left' before after input out s
+  pub accepted_does : (s : Status) → IsOf s → (m : ModuleTree) → IsAccepted (scrutiny_in t) text m → IsExcused s shelf ⊎ Does t m left left' before after input out s
   accepted_does s o m a = by_status s o
     where
       done : (s : Status) → IsDone text t left left' before after input out s → Does t m left left' before after input out s
-      done s (n, b, d) = subst (λ (k : ModuleTree). Does t k left left' before after input out s) (one_module (is_strict_in t) (is_strict_in t) text n m b a) d
+      done s (n, b, d) = subst (λ (k : ModuleTree). Does t k left left' before after input out s) (one_module (scrutiny_in t) (scrutiny_in t) text n m b a) d
 
       by_status : (s : Status) → IsOf s → IsExcused s shelf ⊎ Does t m left left' before after input out s
       by_status NoMemory o = inl (inl refl)
@@ -102,7 +103,7 @@ module _ (text : List ℕ) (t : Task) (left left' : Option (List ℕ)) (before a
 
 -- a run tells its story
 pub run_outcome : (text : List ℕ) (greatest : ℕ) (left left' : Option (List ℕ)) (before after : List ℕ → Type 0) (shelf input out : Type 0) (s : Status) → OfText text (task.Run greatest) left left' before after shelf input out s
-    → (m : ModuleTree) (trace : List ℕ) → IsAccepted false text m → left ≡ Some trace → Outcome (resolved_vars m) (resolved_body m) trace greatest before after left' shelf input out s
+    → (m : ModuleTree) (trace : List ℕ) → IsAccepted Cells text m → left ≡ Some trace → Outcome (resolved_vars m) (resolved_body m) trace greatest before after left' shelf input out s
 run_outcome text greatest left left' before after shelf input out s o m trace a e = which (accepted_does text (task.Run greatest) left left' before after shelf input out s o m a)
   where
     told : (s : Status) → RunsAs (resolved_vars m) (resolved_body m) greatest left left' before after input out s → Outcome (resolved_vars m) (resolved_body m) trace greatest before after left' shelf input out s
@@ -119,6 +120,28 @@ run_outcome text greatest left left' before after shelf input out s o m trace a 
     told (BadWitness k) d = inr (inr (inr (d.2 trace e)))
 
     which : IsExcused s shelf ⊎ RunsAs (resolved_vars m) (resolved_body m) greatest left left' before after input out s → Outcome (resolved_vars m) (resolved_body m) trace greatest before after left' shelf input out s
+    which (inl x) = inl x
+    which (inr d) = told s d
+
+-- and converting writes the trace anew
+pub new_outcome : (text : List ℕ) (to : ℕ) (left left' : Option (List ℕ)) (before after : List ℕ → Type 0) (shelf input out : Type 0) (s : Status) → OfText text (task.Convert to) left left' before after shelf input out s
+    → (m : ModuleTree) (trace : List ℕ) → IsAccepted Cells text m → left ≡ Some trace → NewOutcome (format_of to) (resolved_vars m) trace before after left' shelf input out s
+new_outcome text to left left' before after shelf input out s o m trace a e = which (accepted_does text (task.Convert to) left left' before after shelf input out s o m a)
+  where
+    told : (s : Status) → ConvertsAs (format_of to) (resolved_vars m) left left' before after input out s → NewOutcome (format_of to) (resolved_vars m) trace before after left' shelf input out s
+    told ReadFault d = inr (inl (refl, d.0 refl, d.2 trace e))
+    told WriteFault d = inr (inr (inl (refl, d.1 refl, d.2 trace e)))
+    told status.Ok d = inr (inr (inr (d.2 trace e)))
+    told (BadInput k) d = inr (inr (inr (d.2 trace e)))
+    told (RunFault k q p) d = inr (inr (inr (d.2 trace e)))
+    told StepLimit d = inr (inr (inr (d.2 trace e)))
+    told NoMemory d = inr (inr (inr (d.2 trace e)))
+    told Usage d = inr (inr (inr (d.2 trace e)))
+    told ModuleUnavailable d = inr (inr (inr (d.2 trace e)))
+    told (Refused q p) d = inr (inr (inr (d.2 trace e)))
+    told (BadWitness k) d = inr (inr (inr (d.2 trace e)))
+
+    which : IsExcused s shelf ⊎ ConvertsAs (format_of to) (resolved_vars m) left left' before after input out s → NewOutcome (format_of to) (resolved_vars m) trace before after left' shelf input out s
     which (inl x) = inl x
     which (inr d) = told s d
 
@@ -144,10 +167,11 @@ strict_wants (task.Check b) strict wants s w h = w
 strict_wants (task.Run n) strict wants s w h = absurd (cc)
 strict_wants task.Aif strict wants s w h = absurd (cc)
 strict_wants (task.Load n k) strict wants s w h = absurd (cc)
+strict_wants (task.Convert n) strict wants s w h = absurd (cc)
 
 -- what a build answers, by the task for which it was built
-pub built_for : (text : List ℕ) (t : Task) (strict wants : Bool) (r : Result Built BuildFault) → strict ≡ is_strict_in t → wants ≡ wants_pairs_in t → BuildsAs strict wants text r → BuildsAs (is_strict_in t) (wants_pairs_in t) text r
-built_for text t strict wants r s w h = subst (λ (b : Bool). BuildsAs (is_strict_in t) b text r) w (subst (λ (b : Bool). BuildsAs b wants text r) s h)
+pub built_for : (text : List ℕ) (t : Task) (strict wants : Bool) (r : Result Built BuildFault) → strict ≡ is_strict_in t → wants ≡ wants_pairs_in t → BuildsAs (scrutiny_of strict) wants text r → BuildsAs (scrutiny_in t) (wants_pairs_in t) text r
+built_for text t strict wants r s w h = subst (λ (b : Bool). BuildsAs (scrutiny_in t) b text r) w (subst (λ (b : Bool). BuildsAs (scrutiny_of b) wants text r) s h)
 
 -- ---- texts of the shelf
 

@@ -1,5 +1,5 @@
 -- What the tasks do with the parts of a module.
-use Rattle.std.proofs.Common.{◌≡◌, ◌≤◌, ◌<◌, ◌↔◌, ◌+◌, ℕ, Bool, true, false, List, length, Contains, Option, Some, None, sym, ap, ap₂, subst, ◌∙◌, arith}
+use Rattle.std.proofs.Common.{◌≡◌, ◌⊎◌, ◌≤◌, ◌<◌, ◌↔◌, ◌+◌, ℕ, Bool, true, false, List, length, Contains, Option, Some, None, sym, ap, ap₂, subst, ◌∙◌, arith}
 use Rattle.std.specs.Prelude.{nat_lt}
 use Rattle.std.proofs.lemmas.Bool.Decides.{nat_tests}
 use Rattle.quartz_tree.specs.Surfaces.{ModuleTree}
@@ -8,6 +8,7 @@ use Rattle.quartz_expr.specs.Intervals.{Lies, range_of}
 use Rattle.quartz_expr.specs.Typed.{AreSound}
 use Rattle.quartz_names.specs.Resolving.{resolved_body, resolved_vars}
 use Rattle.outside.specs.declared.status.Status.{Status}
+use Rattle.outside.specs.declared.status.Status.TheVariants.{NoMemory}
 use Rattle.aif_cells.specs.declared.aif.Aif.{Aif}
 use Rattle.aif_cells.specs.declared.cells.Action.{Action}
 use Rattle.aif_cells.specs.Aif.{input_count}
@@ -22,12 +23,16 @@ use Rattle.command_texts.specs.Written.{IsWritten}
 use Rattle.cell_run.specs.Machine.{Executes, IsCompiled}
 use Rattle.cell_run.proofs.ExecuteLemmas.{compiled_cells_execute, outputs_counted}
 use Rattle.quartz_build.specs.declared.building.Built.{Built}
-use Rattle.quartz_build.specs.Broken.{IsAccepted, compiled_of, term_in}
+use Rattle.quartz_build.specs.Broken.{IsAccepted, compiled_of, scrutiny_of, term_in}
 use Rattle.quartz_build.specs.Parts.{AreWanted, ArePartsOf, IsAifOf}
-use Rattle.averest_top.specs.Tasks.{IsLooseCount, IsReady, SaysSize, WritesCells, loose_in}
+use Rattle.trace_writer.specs.declared.format.Format.{Format}
+use Rattle.convert_run.specs.Told.{Converts}
+use Rattle.averest_top.specs.Commands.{most_converted}
+use Rattle.averest_top.specs.Tasks.{ConvertsAs, IsLooseCount, IsReady, SaysSize, WritesCells, loose_in}
 use Rattle.averest_top.proofs.SizeLemmas.{outputs_few}
 use Rattle.absence_reaction.proofs.ElementLemmas.{length_defined}
-use Rattle.quartz_build.proofs.BuildLemmas.{same_scene, same_actions}
+use Rattle.quartz_build.proofs.BuildLemmas.{cells_judged, same_scene, same_actions}
+use Rattle.quartz_build.proofs.OneLemmas.{good_can_run}
 
 -- ---- the cells of a module
 
@@ -77,16 +82,28 @@ says_size m b before after rose s p w = by_pairs b.pairs p.pairs_are w
 pub writes_cells : (wants : Bool) (m : ModuleTree) (b : Built) (before after : List ℕ → Type 0) (rose : Type 0) (s : Status) → ArePartsOf wants m b → IsWritten (aif_text b.aif) before after rose s → WritesCells m before after rose s
 writes_cells wants m b before after rose s p w = record { aif = b.aif; cells_are = p.cells_are; written = w }
 
+-- what is told of a trace that is converted, by the format and the variables themselves
+pub convert_told : (f g : Format) (us vs : Vars) (left left' : Option (List ℕ)) (before after : List ℕ → Type 0) (s : Status) → f ≡ g → us ≡ vs
+    → ((trace : List ℕ) → left ≡ Some trace → Converts f us trace most_converted before after left' s) → (trace : List ℕ) → left ≡ Some trace → Converts g vs trace most_converted before after left' s
+convert_told f g us vs left left' before after s same_format same_vars told trace e =
+    subst (λ (ws : Vars). Converts g ws trace most_converted before after left' s) same_vars
+    (subst (λ (h : Format). Converts h us trace most_converted before after left' s) same_format (told trace e))
+
+-- what is told of the cells' variables is told of the module's
+pub converts : (wants : Bool) (m : ModuleTree) (b : Built) (f : Format) (left left' : Option (List ℕ)) (before after : List ℕ → Type 0) (input out : Type 0) (s : Status) → ArePartsOf wants m b
+    → (s ≡ NoMemory) ⊎ ConvertsAs f b.aif.vars left left' before after input out s → (s ≡ NoMemory) ⊎ ConvertsAs f (resolved_vars m) left left' before after input out s
+converts wants m b f left left' before after input out s p h = subst (λ (vs : Vars). (s ≡ NoMemory) ⊎ ConvertsAs f vs left left' before after input out s) p.cells_are.vars_are h
+
 -- ---- a module that is accepted is ready for each task
 
 sized : (n : ℕ) → nat_lt 65536 n ≡ false → n ≤ 65536
 sized n h = grind (arith, nat_tests)
 
-pub parts_ready : (strict wants : Bool) (text : List ℕ) (m : ModuleTree) (b : Built) → IsAccepted strict text m → ArePartsOf wants m b → IsReady b
+pub parts_ready : (strict wants : Bool) (text : List ℕ) (m : ModuleTree) (b : Built) → IsAccepted (scrutiny_of strict) text m → ArePartsOf wants m b → IsReady b
 parts_ready strict wants text m b a p =
     let i = p.cells_are in
     let vs : Vars = resolved_vars m in
-    let size : length (compiled_of m).cells + length (compiled_of m).registers + input_count vs ≤ 65536 = sized _ a.good.fits in
+    let size : length (compiled_of m).cells + length (compiled_of m).registers + input_count vs ≤ 65536 = sized _ (good_can_run (scrutiny_of strict) m (cells_judged strict) a.good).fits in
     let counted : length b.aif.outputs ≡ length (output_types b.aif.vars) = outputs_counted vs (resolved_body m) b.aif (is_compiled m b.aif i) in
     let same : length b.aif.outputs ≡ length (compiled_of m).outputs = ap (λ (c : Compiled). length c.outputs) i.compiled_to in
     let few : length (compiled_of m).outputs ≤ length (compiled_of m).cells = outputs_few vs (term_in m) p.sound in

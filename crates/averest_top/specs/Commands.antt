@@ -7,6 +7,7 @@ use Rattle.command_words.specs.declared.command.Command.{Command}
 use Rattle.command_words.specs.declared.command.Command.TheVariants.{Run, Check, Aif, Plan, Load, Convert, Verify}
 use Rattle.command_words.specs.Words.{meant}
 use Rattle.cell_run.specs.Told.{calls_of_run}
+use Rattle.quartz_build.specs.Broken.{Scrutiny, scrutiny_of}
 use Rattle.averest_top.specs.declared.task.Task.{Task}
 use Rattle.averest_top.specs.declared.task.Task.TheVariants as task
 
@@ -26,6 +27,7 @@ task_in (Run _ _ _ _ greatest false) = Some (task.Run greatest)
 task_in (Check _ strict) = Some (task.Check strict)
 task_in (Aif _) = Some task.Aif
 task_in (Load _ seed steps _ _ _) = Some (task.Load seed steps)
+task_in (Convert _ to) = Some (task.Convert to)
 task_in _ = None
 
 -- the module, and what is asked of it
@@ -43,9 +45,14 @@ not_built = Refused 0 origin
 -- ---- what a task needs
 
 -- a task that reads the trace
-abbrev pub is_run : Task → Bool
-is_run (task.Run _) = true
-is_run _ = false
+abbrev pub reads_trace : Task → Bool
+reads_trace (task.Run _) = true
+reads_trace (task.Convert _) = true
+reads_trace _ = false
+
+-- in how many steps at most a trace is converted
+abbrev pub most_converted : ℕ
+most_converted = 4294967295
 
 -- one that counts loose pairs of writes, and one that refuses them
 abbrev pub wants_pairs_in : Task → Bool
@@ -56,9 +63,14 @@ abbrev pub is_strict_in : Task → Bool
 is_strict_in (task.Check strict) = strict
 is_strict_in _ = false
 
--- how often a task asks the source: not at all, but for runs
+-- how far it has its text judged
+abbrev pub scrutiny_in : Task → Scrutiny
+scrutiny_in t = scrutiny_of (is_strict_in t)
+
+-- how often a task asks the source: not at all, where it doesn't read the trace
 abbrev pub calls_of : Task → ℕ
 calls_of (task.Run greatest) = calls_of_run greatest
+calls_of (task.Convert _) = calls_of_run most_converted
 calls_of _ = 0
 
 -- how often what the words mean asks it

@@ -9,11 +9,13 @@ use Rattle.outside.specs.Bytes.{Gains}
 use Rattle.trace_io.specs.Lines.{joined_lines}
 use Rattle.trace_io.specs.Story.{End}
 use Rattle.cell_run.specs.Told.{Told, ToldWhole, ToldBegun, status_of}
+use Rattle.trace_writer.specs.declared.format.Format.{Format}
+use Rattle.convert_run.specs.Told.{Converted, ConvertedWhole, ConvertedBegun}
 use Rattle.quartz_build.specs.declared.fault.BuildFault.{BuildFault}
 use Rattle.quartz_build.specs.declared.fault.BuildFault.TheVariants as fault
 use Rattle.quartz_build.specs.Broken.{IsAccepted, Refuses}
 use Rattle.averest_top.specs.declared.task.Task.{Task}
-use Rattle.averest_top.specs.Commands.{is_strict_in}
+use Rattle.averest_top.specs.Commands.{most_converted, scrutiny_in}
 use Rattle.averest_top.specs.Tasks.{Does, EndsAs}
 
 -- a status comes exactly with its cause, but for want of memory
@@ -47,6 +49,15 @@ Outcome vs body trace greatest before after left shelf_rose input_rose out_rose 
     ⊎ (((status ≡ WriteFault) × out_rose × ToldBegun vs body trace greatest before after)
     ⊎ Told vs body trace greatest before after left status))
 
+-- a trace that is written anew: it is excused, or a read failed behind the lines that were done, or a write failed within the new bytes,
+-- or all of it was written up to its end
+abbrev pub NewOutcome : Format → Vars → (trace : List ℕ) → (before after : List ℕ → Type 0) → (left : Option (List ℕ)) → (shelf_rose input_rose out_rose : Type 0) → Status → Type 0
+NewOutcome f vs trace before after left shelf_rose input_rose out_rose status =
+    IsExcused status shelf_rose
+    ⊎ (((status ≡ ReadFault) × input_rose × ConvertedWhole f vs trace most_converted before after left)
+    ⊎ (((status ≡ WriteFault) × out_rose × ConvertedBegun f vs trace most_converted before after)
+    ⊎ Converted f vs trace most_converted before after left status))
+
 -- the status is the end of a story and the sink gained its lines, but for want of memory
 abbrev pub HasTold : (before after : List ℕ → Type 0) → (written : List (List ℕ)) → End → Status → Type 0
 HasTold before after written end status = (status ≡ NoMemory) ⊎ ((status ≡ status_of end) × Gains before after (joined_lines written))
@@ -70,7 +81,7 @@ CanCome (Some asked) status = CanComeOf asked.1 status
 
 -- the text is one module that breaks no rule, and the task is done with it
 abbrev pub IsDone : (text : List ℕ) → Task → (left left' : Option (List ℕ)) → (before after : List ℕ → Type 0) → (input_rose out_rose : Type 0) → Status → Type 0
-IsDone text t left left' before after input_rose out_rose status = (m : ModuleTree) × IsAccepted (is_strict_in t) text m × Does t m left left' before after input_rose out_rose status
+IsDone text t left left' before after input_rose out_rose status = (m : ModuleTree) × IsAccepted (scrutiny_in t) text m × Does t m left left' before after input_rose out_rose status
 
 -- the status of a text that is refused
 abbrev pub refusal_status : BuildFault → Status
@@ -81,6 +92,6 @@ refusal_status fault.NoMemory = NoMemory
 abbrev pub OfText : (text : List ℕ) → Task → (left left' : Option (List ℕ)) → (before after : List ℕ → Type 0) → (shelf_rose input_rose out_rose : Type 0) → Status → Type 0
 OfText text t left left' before after shelf_rose input_rose out_rose NoMemory = Unit {0}
 OfText text t left left' before after shelf_rose input_rose out_rose ModuleUnavailable = shelf_rose
-OfText text t left left' before after shelf_rose input_rose out_rose (Refused rule place) = Refuses (is_strict_in t) text rule place
+OfText text t left left' before after shelf_rose input_rose out_rose (Refused rule place) = Refuses (scrutiny_in t) text rule place
 OfText text t left left' before after shelf_rose input_rose out_rose Usage = ⊥
 OfText text t left left' before after shelf_rose input_rose out_rose status = IsDone text t left left' before after input_rose out_rose status

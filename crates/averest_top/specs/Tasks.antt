@@ -21,16 +21,25 @@ use Rattle.command_texts.specs.Written.{IsWritten}
 use Rattle.command_texts.specs.Counted.{HaveShortLines}
 use Rattle.cell_run.specs.Told.{Tells}
 use Rattle.load_run.specs.Load.{Loaded}
+use Rattle.trace_writer.specs.declared.format.Format.{Format}
+use Rattle.trace_writer.specs.Anew.{format_of}
+use Rattle.convert_run.specs.Told.{Converts}
 use Rattle.quartz_build.specs.Broken.{compiled_of, scene_in}
 use Rattle.quartz_build.specs.Parts.{IsAifOf}
 use Rattle.quartz_build.specs.declared.building.Built.{Built}
 use Rattle.averest_top.specs.declared.task.Task.{Task}
 use Rattle.averest_top.specs.declared.task.Task.TheVariants as task
+use Rattle.averest_top.specs.Commands.{most_converted}
 
 -- a run of a body over the trace: a failed read or write is counted, and the status says what was told
 abbrev pub RunsAs : (vs : Vars) (body : Kernel) (greatest : ℕ) (left left' : Option (List ℕ)) (before after : List ℕ → Type 0) (input_rose out_rose : Type 0) → Status → Type 0
 RunsAs vs body greatest left left' before after input_rose out_rose s =
     (s ≡ ReadFault → input_rose) × (s ≡ WriteFault → out_rose) × ((trace : List ℕ) → left ≡ Some trace → Tells vs body trace greatest before after left' s)
+
+-- the trace of the inputs among the variables is converted: a failed read or write is counted, and the status says what was told
+abbrev pub ConvertsAs : Format → Vars → (left left' : Option (List ℕ)) (before after : List ℕ → Type 0) (input_rose out_rose : Type 0) → Status → Type 0
+ConvertsAs f vs left left' before after input_rose out_rose s =
+    (s ≡ ReadFault → input_rose) × (s ≡ WriteFault → out_rose) × ((trace : List ℕ) → left ≡ Some trace → Converts f vs trace most_converted before after left' s)
 
 -- so many loose pairs of writes has a module, or more where that is the greatest count
 pub record IsLooseCount (m : ModuleTree) (n : ℕ) : Type 0 where
@@ -57,6 +66,7 @@ Does (task.Run greatest) m left left' before after input_rose out_rose s = RunsA
 Does (task.Check _) m left left' before after input_rose out_rose s = SaysSize m before after out_rose s
 Does task.Aif m left left' before after input_rose out_rose s = WritesCells m before after out_rose s
 Does (task.Load seed steps) m left left' before after input_rose out_rose s = Loaded (resolved_vars m) (resolved_body m) seed steps before after out_rose s
+Does (task.Convert to) m left left' before after input_rose out_rose s = ConvertsAs (format_of to) (resolved_vars m) left left' before after input_rose out_rose s
 
 -- ---- what was built
 
@@ -95,4 +105,7 @@ EndsAs (task.Run _) StepLimit = Unit {0}
 EndsAs (task.Load _ _) (BadInput _) = Unit {0}
 EndsAs (task.Load _ _) (RunFault _ _ _) = Unit {0}
 EndsAs (task.Load _ _) StepLimit = Unit {0}
+EndsAs (task.Convert _) ReadFault = Unit {0}
+EndsAs (task.Convert _) (BadInput _) = Unit {0}
+EndsAs (task.Convert _) StepLimit = Unit {0}
 EndsAs _ _ = ⊥

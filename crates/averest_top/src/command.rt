@@ -13,12 +13,13 @@ ghost use Rattle.trace_io.specs.Held.{CalledAtMost};
 ghost use Rattle.trace_io.specs.Story.{End, Story};
 ghost use Rattle.load_run.specs.Load.{Loaded};
 ghost use Rattle.loose_runs.specs.Laws.{FlaggedAt};
-ghost use Rattle.quartz_build.specs.Broken.{IsAccepted, Refuses, term_in};
+ghost use Rattle.quartz_build.specs.Broken.{Cells, IsAccepted, Refuses, Strict, scrutiny_of, term_in};
 ghost use Rattle.averest_top.specs.declared.task.Task.{Task as Demand};
-ghost use Rattle.averest_top.specs.declared.task.Task.TheVariants.{Run as run_task, Check as check_task, Aif as aif_task, Load as load_task};
-ghost use Rattle.averest_top.specs.Commands.{asked_in, calls_asked, is_run, is_strict_in, not_built, task_in, task_meant};
+ghost use Rattle.averest_top.specs.declared.task.Task.TheVariants.{Run as run_task, Check as check_task, Aif as aif_task, Load as load_task, Convert as convert_task};
+ghost use Rattle.averest_top.specs.Commands.{asked_in, calls_asked, reads_trace, not_built, scrutiny_in, task_in, task_meant};
 ghost use Rattle.averest_top.specs.Tasks.{SaysSize, WritesCells};
-ghost use Rattle.averest_top.specs.Promise.{CanCome, ComesBefore, ComesWith, HasText, HasTold, IsExcused, LacksText, OfText, Outcome};
+ghost use Rattle.trace_writer.specs.Anew.{format_of};
+ghost use Rattle.averest_top.specs.Promise.{CanCome, ComesBefore, ComesWith, HasText, HasTold, IsExcused, LacksText, NewOutcome, OfText, Outcome};
 
 use crate::fetching::{do_module, status_of_fault};
 use crate::task::{module_of, task_of};
@@ -50,7 +51,7 @@ fn do_command<F: Shelf, S: Source, O: Sink>(
     ensures asked { CalledAtMost (calls_asked (asked_in command.now)) (S.calls input.old)
         (S.calls input.new) }
     ensures untaken { (name : List ℕ) (task : Demand) → asked_in command.now ≡ Some (name, task)
-        → is_run task ≡ false → input.new ≡ input.old }
+        → reads_trace task ≡ false → input.new ≡ input.old }
     ensures unavailable { (name : List ℕ) (task : Demand) → asked_in command.now ≡ Some (name, task)
         → result ≡ Status.ModuleUnavailable
         → Unfetched (F.texts shelf.old) name (F.faults shelf.old) (F.faults shelf.new) }
@@ -93,7 +94,7 @@ fn obey<F: Shelf, S: Source, O: Sink>(
     ensures asked { CalledAtMost (calls_asked (task_meant words.now)) (S.calls input.old)
         (S.calls input.new) }
     ensures untaken { (name : List ℕ) (task : Demand) → task_meant words.now ≡ Some (name, task)
-        → is_run task ≡ false → input.new ≡ input.old }
+        → reads_trace task ≡ false → input.new ≡ input.old }
     ensures unavailable { (name : List ℕ) (task : Demand) → task_meant words.now ≡ Some (name, task)
         → result ≡ Status.ModuleUnavailable
         → Unfetched (F.texts shelf.old) name (F.faults shelf.old) (F.faults shelf.new) }
@@ -149,11 +150,11 @@ pub fn averest<
         → (result ≡ not_built) ⊎ (result ≡ Status.NoMemory) }
     ensures unasked { task_meant words.now ≡ None → shelf.new ≡ shelf.old }
 
-    // A run asks the source so often at most, and nothing else takes anything of it.
+    // What reads the trace asks the source so often at most, and nothing else takes anything of it.
     ensures asked { CalledAtMost (calls_asked (task_meant words.now)) (S.calls input.old)
         (S.calls input.new) }
     ensures untaken { (name : List ℕ) (task : Demand) → task_meant words.now ≡ Some (name, task)
-        → is_run task ≡ false → input.new ≡ input.old }
+        → reads_trace task ≡ false → input.new ≡ input.old }
 
     // There is no such text, or the shelf failed.
     ensures unavailable { (name : List ℕ) (task : Demand) → task_meant words.now ≡ Some (name, task)
@@ -167,13 +168,13 @@ pub fn averest<
     ensures refused { (name text : List ℕ) (task : Demand)
         → task_meant words.now ≡ Some (name, task) → HasText (F.texts shelf.old) name text
         → (r : ℕ) (p : Place) →
-        (result ≡ Status.Refused r p → Refuses (is_strict_in task) text r p)
-        × (Refuses (is_strict_in task) text r p
+        (result ≡ Status.Refused r p → Refuses (scrutiny_in task) text r p)
+        × (Refuses (scrutiny_in task) text r p
         → (result ≡ Status.Refused r p)
         ⊎ IsExcused result (Rose (F.faults shelf.old) (F.faults shelf.new))) }
     ensures accepted { (name text : List ℕ) (task : Demand)
         → task_meant words.now ≡ Some (name, task) → HasText (F.texts shelf.old) name text →
-        ComesBefore result ⊎ ((m : ModuleTree) × IsAccepted (is_strict_in task) text m) }
+        ComesBefore result ⊎ ((m : ModuleTree) × IsAccepted (scrutiny_in task) text m) }
 
     // With `run` a text that is accepted tells its story over the trace: the lines of the macro
     // steps of its module, and a fault exactly at the first step that has one. After a failed read
@@ -182,7 +183,7 @@ pub fn averest<
     ensures story { (name text : List ℕ) (most : ℕ)
         → task_meant words.now ≡ Some (name, run_task most) → HasText (F.texts shelf.old) name text
         →
-        (m : ModuleTree) (trace : List ℕ) → IsAccepted false text m → S.left input.old ≡ Some trace
+        (m : ModuleTree) (trace : List ℕ) → IsAccepted Cells text m → S.left input.old ≡ Some trace
         →
         Outcome (resolved_vars m) (resolved_body m) trace most (O.stands out.old) (O.stands out.new)
         (S.left input.new)
@@ -195,7 +196,7 @@ pub fn averest<
     ensures complete { (name text : List ℕ) (most : ℕ)
         → task_meant words.now ≡ Some (name, run_task most) → HasText (F.texts shelf.old) name text
         →
-        (m : ModuleTree) (trace : List ℕ) → IsAccepted false text m → S.left input.old ≡ Some trace
+        (m : ModuleTree) (trace : List ℕ) → IsAccepted Cells text m → S.left input.old ≡ Some trace
         →
         ¬ (Rose (F.faults shelf.old) (F.faults shelf.new))
         → ¬ (Rose (S.faults input.old) (S.faults input.new))
@@ -208,7 +209,7 @@ pub fn averest<
     ensures size { (name text : List ℕ) (strict : Bool)
         → task_meant words.now ≡ Some (name, check_task strict)
         → HasText (F.texts shelf.old) name text →
-        (m : ModuleTree) → IsAccepted strict text m →
+        (m : ModuleTree) → IsAccepted (scrutiny_of strict) text m →
         IsExcused result (Rose (F.faults shelf.old) (F.faults shelf.new))
         ⊎ SaysSize m (O.stands out.old) (O.stands out.new)
         (Rose (O.faults out.old) (O.faults out.new)) result }
@@ -216,7 +217,7 @@ pub fn averest<
     // With `aif` the cells are written to which its module is compiled.
     ensures cells { (name text : List ℕ) → task_meant words.now ≡ Some (name, aif_task)
         → HasText (F.texts shelf.old) name text →
-        (m : ModuleTree) → IsAccepted false text m →
+        (m : ModuleTree) → IsAccepted Cells text m →
         IsExcused result (Rose (F.faults shelf.old) (F.faults shelf.new))
         ⊎ WritesCells m (O.stands out.old) (O.stands out.new)
         (Rose (O.faults out.old) (O.faults out.new)) result }
@@ -225,24 +226,36 @@ pub fn averest<
     ensures load { (name text : List ℕ) (seed steps : ℕ)
         → task_meant words.now ≡ Some (name, load_task seed steps)
         → HasText (F.texts shelf.old) name text →
-        (m : ModuleTree) → IsAccepted false text m →
+        (m : ModuleTree) → IsAccepted Cells text m →
         IsExcused result (Rose (F.faults shelf.old) (F.faults shelf.new))
         ⊎ Loaded (resolved_vars m) (resolved_body m) seed steps (O.stands out.old)
         (O.stands out.new) (Rose (O.faults out.old) (O.faults out.new)) result }
+
+    // With `convert` the trace is written anew in the format, step by step up to its end.
+    ensures convert { (name text : List ℕ) (to : ℕ)
+        → task_meant words.now ≡ Some (name, convert_task to)
+        → HasText (F.texts shelf.old) name text →
+        (m : ModuleTree) (trace : List ℕ) → IsAccepted Cells text m
+        → S.left input.old ≡ Some trace →
+        NewOutcome (format_of to) (resolved_vars m) trace (O.stands out.old) (O.stands out.new)
+        (S.left input.new)
+        (Rose (F.faults shelf.old) (F.faults shelf.new))
+        (Rose (S.faults input.old) (S.faults input.new))
+        (Rose (O.faults out.old) (O.faults out.new)) result }
 
     // With `run` it ends in a conflict only at the declaration of a variable that some loose pair
     // of writes writes, and never where the text is accepted with such pairs refused.
     ensures conflicts { (name text : List ℕ) (most : ℕ)
         → task_meant words.now ≡ Some (name, run_task most) → HasText (F.texts shelf.old) name text
         →
-        (m : ModuleTree) (trace : List ℕ) → IsAccepted false text m → S.left input.old ≡ Some trace
+        (m : ModuleTree) (trace : List ℕ) → IsAccepted Cells text m → S.left input.old ≡ Some trace
         →
         (k : ℕ) (p : Place) → result ≡ Status.RunFault k Conflict p
         → FlaggedAt (resolved_vars m) (term_in m) p }
     ensures tight { (name text : List ℕ) (most : ℕ)
         → task_meant words.now ≡ Some (name, run_task most) → HasText (F.texts shelf.old) name text
         →
-        (m : ModuleTree) (trace : List ℕ) → IsAccepted true text m → S.left input.old ≡ Some trace →
+        (m : ModuleTree) (trace : List ℕ) → IsAccepted Strict text m → S.left input.old ≡ Some trace →
         (k : ℕ) (p : Place) → result ≢ Status.RunFault k Conflict p }
 
     // A failed read or write is counted, and each task ends with statuses of its own, over any

@@ -13,18 +13,25 @@ ghost use Rattle.command_texts.specs.Texts.{accepted_text};
 ghost use Rattle.command_texts.specs.Written.{IsWritten};
 ghost use Rattle.load_run.specs.Load.{Loaded};
 ghost use Rattle.quartz_build.specs.Parts.{ArePartsOf};
-ghost use Rattle.averest_top.specs.Commands.{calls_of, is_run, wants_pairs_in};
-ghost use Rattle.averest_top.specs.Tasks.{Does, EndsAs, IsOfTask, IsReady, RunsAs, loose_in};
+ghost use Rattle.trace_writer.specs.Anew.{format_of};
+ghost use Rattle.convert_run.specs.Told.{IsOfConvert};
+ghost use Rattle.averest_top.specs.Commands.{calls_of, most_converted, reads_trace, wants_pairs_in};
+ghost use Rattle.averest_top.specs.Tasks.{ConvertsAs, Does, EndsAs, IsOfTask, IsReady, RunsAs, loose_in};
 
 use crate::task::Task;
 use aif_cells::write_text;
 use cell_run::run_cells;
 use command_texts::put_accepted;
+use convert_run::convert_trace;
 use load_run::load_cells;
 use outside::{Sink, Source, Status};
 use quartz_build::Built;
 use std::alloc::Global;
+use trace_writer::Format;
 use write_conflicts::Pairs;
+
+// In how many steps at most a trace is converted.
+const MOST_CONVERTED: u32 = 4294967295;
 
 // Runs a module on a trace, in at most so many steps.
 fn run_built<S: Source, O: Sink>(
@@ -115,6 +122,38 @@ fn load_built<O: Sink>(alloc: Global, built: &Built, seed: u64, steps: u32, out:
     }
 }
 
+// Writes a trace of a module's inputs anew in a format.
+fn convert_built<S: Source, O: Sink>(
+    alloc: Global,
+    built: &Built,
+    to: u32,
+    input: &mut S,
+    out: &mut O,
+) -> Status
+    requires ready { IsReady built.now }
+    ensures input_counts { S.faults input.old ≤ S.faults input.new }
+    ensures out_counts { O.faults out.old ≤ O.faults out.new }
+    ensures asked { CalledAtMost (calls_of_run most_converted) (S.calls input.old)
+        (S.calls input.new) }
+    ensures ends { (result ≡ Status.NoMemory) ⊎ IsOfConvert result }
+    ensures read_fault { result ≡ Status.ReadFault
+        → Rose (S.faults input.old) (S.faults input.new) }
+    ensures write_fault { result ≡ Status.WriteFault → Rose (O.faults out.old) (O.faults out.new) }
+    ensures untouched { result ≡ Status.NoMemory → (input.new ≡ input.old) × (out.new ≡ out.old) }
+    ensures done { (result ≡ Status.NoMemory)
+        ⊎ ConvertsAs (format_of to) built.now.aif.vars (S.left input.old) (S.left input.new)
+        (O.stands out.old) (O.stands out.new)
+        (Rose (S.faults input.old) (S.faults input.new))
+        (Rose (O.faults out.old) (O.faults out.new)) result }
+{
+    let format = Format::of_number(to);
+    let vars = built.aif.vars.as_slice();
+    match convert_trace(alloc, vars, format, MOST_CONVERTED, input, out) {
+        Ok(status) => status,
+        Err(_) => Status::NoMemory,
+    }
+}
+
 /// Does a task with a module that was built.
 pub(crate) fn do_task<S: Source, O: Sink>(
     alloc: Global,
@@ -127,7 +166,7 @@ pub(crate) fn do_task<S: Source, O: Sink>(
     ensures input_counts { S.faults input.old ≤ S.faults input.new }
     ensures out_counts { O.faults out.old ≤ O.faults out.new }
     ensures asked { CalledAtMost (calls_of task) (S.calls input.old) (S.calls input.new) }
-    ensures untaken { is_run task ≡ false → input.new ≡ input.old }
+    ensures untaken { reads_trace task ≡ false → input.new ≡ input.old }
     ensures of_task { IsOfTask result }
     ensures ends { EndsAs task result }
     ensures read_fault { result ≡ Status.ReadFault
@@ -145,5 +184,6 @@ pub(crate) fn do_task<S: Source, O: Sink>(
         Task::Check { .. } => check_built(built, out),
         Task::Aif => write_built(built, out),
         Task::Load { seed, steps } => load_built(alloc, built, seed, steps, out),
+        Task::Convert { to } => convert_built(alloc, built, to, input, out),
     }
 }

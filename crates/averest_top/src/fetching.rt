@@ -3,7 +3,7 @@
 ghost use Rattle.std.specs.Prelude.{◌≡◌, ◌≢◌, ◌≤◌, ◌⊎◌, List, ℕ, false, IfOk, length};
 ghost use Rattle.outside.specs.Bytes.{Rose, Unfetched};
 ghost use Rattle.trace_io.specs.Held.{CalledAtMost};
-ghost use Rattle.averest_top.specs.Commands.{calls_of, is_run};
+ghost use Rattle.averest_top.specs.Commands.{calls_of, reads_trace};
 ghost use Rattle.averest_top.specs.Promise.{CanComeOf, ComesBefore, HasText, LacksText, OfText, refusal_status};
 
 use crate::doing::do_task;
@@ -37,7 +37,7 @@ fn do_text<S: Source, O: Sink>(
     ensures input_counts { S.faults input.old ≤ S.faults input.new }
     ensures out_counts { O.faults out.old ≤ O.faults out.new }
     ensures asked { CalledAtMost (calls_of task) (S.calls input.old) (S.calls input.new) }
-    ensures untaken { is_run task ≡ false → input.new ≡ input.old }
+    ensures untaken { reads_trace task ≡ false → input.new ≡ input.old }
     ensures read_fault { result ≡ Status.ReadFault
         → Rose (S.faults input.old) (S.faults input.new) }
     ensures write_fault { result ≡ Status.WriteFault → Rose (O.faults out.old) (O.faults out.new) }
@@ -77,7 +77,7 @@ fn do_fetched<F: Shelf, S: Source, O: Sink>(
     ensures input_counts { S.faults input.old ≤ S.faults input.new }
     ensures out_counts { O.faults out.old ≤ O.faults out.new }
     ensures asked { CalledAtMost (calls_of task) (S.calls input.old) (S.calls input.new) }
-    ensures untaken { is_run task ≡ false → input.new ≡ input.old }
+    ensures untaken { reads_trace task ≡ false → input.new ≡ input.old }
     ensures read_fault { result ≡ Status.ReadFault
         → Rose (S.faults input.old) (S.faults input.new) }
     ensures write_fault { result ≡ Status.WriteFault → Rose (O.faults out.old) (O.faults out.new) }
@@ -112,7 +112,7 @@ pub(crate) fn do_module<F: Shelf, S: Source, O: Sink>(
     ensures input_counts { S.faults input.old ≤ S.faults input.new }
     ensures out_counts { O.faults out.old ≤ O.faults out.new }
     ensures asked { CalledAtMost (calls_of task) (S.calls input.old) (S.calls input.new) }
-    ensures untaken { is_run task ≡ false → input.new ≡ input.old }
+    ensures untaken { reads_trace task ≡ false → input.new ≡ input.old }
     ensures read_fault { result ≡ Status.ReadFault
         → Rose (S.faults input.old) (S.faults input.new) }
     ensures write_fault { result ≡ Status.WriteFault → Rose (O.faults out.old) (O.faults out.new) }

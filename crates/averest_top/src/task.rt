@@ -17,6 +17,8 @@ pub enum Task {
     Aif,
     /// Run it on the trace that a seed generates for so many steps.
     Load { seed: u64, steps: u32 },
+    /// Write the trace of its inputs anew in format 1 or 2.
+    Convert { to: u32 },
 }
 
 impl Task {
@@ -59,6 +61,7 @@ pub(crate) fn task_of(command: &Command) -> Option<Task>
             seed: *seed,
             steps: *steps,
         }),
+        Command::Convert { to, .. } => Some(Task::Convert { to: *to }),
         _ => None,
     }
 }

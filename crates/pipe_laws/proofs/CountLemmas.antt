@@ -167,9 +167,9 @@ when_length true g x y = length-replicate g x ∙ sym (length-replicate g y)
 when_length false g x y = refl
 
 none : FeedShape
-none = record { source = 0; reader = 0; regs = 0 }
+none = record { source = 1; reader = 0; regs = 0 }
 
-outs_total : (n i : ℕ) (fs : List FeedShape) → ((j : ℕ) → j < length fs → (get_or fs j (record { source = 0; reader = 0; regs = 0 })).source < n) → total (λ s. length (outs s i fs)) n ≡ registers fs
+outs_total : (n i : ℕ) (fs : List FeedShape) → ((j : ℕ) → j < length fs → (get_or fs j (record { source = 1; reader = 0; regs = 0 })).source < n) → total (λ s. length (outs s i fs)) n ≡ registers fs
 outs_total n i [] h = total_zero (λ s. 0) n (λ a. refl)
 outs_total n i (f ∷ fs) h =
     total_same (λ s. length (outs s i (f ∷ fs))) (λ s. length (when (f.source == s) (replicate f.regs (Pop (Feed 0)))) + length (outs s (suc i) fs)) n
@@ -177,7 +177,7 @@ outs_total n i (f ∷ fs) h =
     ∙ total_add (λ s. length (when (f.source == s) (replicate f.regs (Pop (Feed 0))))) (λ s. length (outs s (suc i) fs)) n
     ∙ (let a = total_one f.source f.regs n (h 0 (omega arith)) in let r = outs_total n (suc i) fs (λ j l. h (suc j) (omega (arith, l))) in omega (arith, a, r))
 
-ins_total : (n i : ℕ) (fs : List FeedShape) → ((j : ℕ) → j < length fs → (get_or fs j (record { source = 0; reader = 0; regs = 0 })).reader < n) → total (λ s. length (ins s i fs)) n ≡ registers fs
+ins_total : (n i : ℕ) (fs : List FeedShape) → ((j : ℕ) → j < length fs → (get_or fs j (record { source = 1; reader = 0; regs = 0 })).reader < n) → total (λ s. length (ins s i fs)) n ≡ registers fs
 ins_total n i [] h = total_zero (λ s. 0) n (λ a. refl)
 ins_total n i (f ∷ fs) h =
     total_same (λ s. length (ins s i (f ∷ fs))) (λ s. length (when (f.reader == s) (replicate f.regs (Pop (Feed 0)))) + length (ins s (suc i) fs)) n

@@ -23,13 +23,13 @@ get_right [] ys i l = ap (slice_get ys) (omega arith)
 get_right (x ∷ xs) ys zero l = absurd (omega (arith, l))
 get_right (x ∷ xs) ys (suc i) l = get_right xs ys i (omega (arith, l)) ∙ ap (slice_get ys) (omega arith)
 
-get_none : {A : Type 0} → (xs : List A) (i : ℕ) → slice_get xs i ≡ None → length xs ≤ i
+pub get_none : {A : Type 0} → (xs : List A) (i : ℕ) → slice_get xs i ≡ None → length xs ≤ i
 get_none [] i e = omega arith
 get_none (x ∷ xs) zero e = absurd (none-some x (sym e))
 get_none (x ∷ xs) (suc i) e = let l = get_none xs i e in omega (arith, l)
 
 -- at a place with no move, the counts stay
-done_idle : (s : Script) (m : Move) (c : Cursor) → slice_get (s c.step) c.done ≡ None → done_at s m (next s c) ≡ done_at s m c
+pub done_idle : (s : Script) (m : Move) (c : Cursor) → slice_get (s c.step) c.done ≡ None → done_at s m (next s c) ≡ done_at s m c
 done_idle s m c e =
     let l = get_none (s c.step) c.done e in
     elim (leb_tells (suc (suc c.done)) (length (s c.step))) [

@@ -64,8 +64,8 @@ outs_none m z s i (f ∷ fs) =
     when_none true = times_replicate m (Push (Feed i)) f.regs ∙ (let q = ap (λ n. f.regs * n) (z i) in omega (arith, q))
     when_none false = refl
 
-abbrev none : FeedShape
-none = record { source = 0; reader = 0; regs = 0 }
+abbrev pub none : FeedShape
+none = record { source = 1; reader = 0; regs = 0 }
 
 feed_hit : (i j : ℕ) → i ≢ j → hit (Pop (Feed i)) (Pop (Feed j)) ≡ 0
 feed_hit i j n = elim (eqb_tells i j) [ inl h ↦ absurd (n h.1) | inr h ↦ ap (λ b. if b then 1 else 0) h.0 ]

@@ -19,7 +19,7 @@ pub record Shape : Type 0 where
   pub lines : ℕ
 
 abbrev pub feed : Shape → ℕ → FeedShape
-feed h j = get_or h.feeds j (record { source = 0; reader = 0; regs = 0 })
+feed h j = get_or h.feeds j (record { source = 1; reader = 0; regs = 0 })
 
 abbrev pub when : Bool → List Move → List Move
 when true xs = xs

@@ -1,5 +1,5 @@
 -- What the build of a text answers.
-use Rattle.std.proofs.Common.{◌≡◌, inl, inr, ℕ, Bool, true, false, List, [], ◌∷◌, map, Contains, Option, Some, None, Result, Ok, Err, refl, sym, ap, ap₂, subst, subst₂, ◌∙◌}
+use Rattle.std.proofs.Common.{◌≡◌, ◌↔◌, ℕ, Bool, true, false, List, [], ◌∷◌, map, Contains, Option, Some, None, Result, Ok, Err, refl, sym, ap, ap₂, subst, subst₂, ◌∙◌}
 use Rattle.quartz_tree.specs.declared.place.Place.{Place}
 use Rattle.quartz_tree.specs.Kernel.{Kernel, kernel}
 use Rattle.quartz_tree.specs.Least.{is_before, least_place}
@@ -31,7 +31,7 @@ use Rattle.write_conflicts.specs.declared.pairs.Pairs.{Pairs}
 use Rattle.quartz_build.specs.declared.building.Built.{Built}
 use Rattle.quartz_build.specs.declared.fault.BuildFault.{BuildFault}
 use Rattle.quartz_build.specs.declared.fault.BuildFault.TheVariants as fault
-use Rattle.quartz_build.specs.Broken.{BreaksEarly, BreaksLate, by_size, by_cycle, by_pair, HasGoodCells, HasNoPair, IsAccepted, IsLeastPlace, IsPlaceOfPair, IsWellTyped, Refuses, early, late, compiled_of, scene_in, term_in}
+use Rattle.quartz_build.specs.Broken.{BreaksEarly, BreaksLate, by_size, by_cycle, by_pair, CanRun, HasGoodCells, HasNoPair, IsLeastPlace, IsPlaceOfPair, Refuses, early, late, Scrutiny, Front, Cells, Strict, compiled_of, judges_cells, scene_in, scrutiny_of, term_in}
 use Rattle.quartz_build.specs.Parts.{AllowedAs, AreWanted, ArePartsOf, BuildsAs, CellsAs, FrontAs, IsAifOf, IsTypedOf, refused_pair}
 use Rattle.quartz_build.specs.Refusals.{compile_refusal, order_refusal}
 
@@ -48,14 +48,14 @@ same_compiled m t i = ap₂ compiled i.vars_are (same_term m t i)
 same_size : (m : ModuleTree) (t : Typed) → IsTypedOf m t → is_too_large t.resolved.vars (term_of (kernel t.resolved.body)) ≡ is_too_large (resolved_vars m) (term_in m)
 same_size m t i = ap₂ is_too_large i.vars_are (same_term m t i)
 
-pub size_refused : (wants : Bool) (t : Typed) (f : CompileFault) → (f ≡ compiling.S8 → is_too_large t.resolved.vars (term_of (kernel t.resolved.body)) ≡ true) → CellsAs false wants t (Err (compile_refusal f))
-size_refused wants t compiling.S8 h = λ m i. by_size (sym (same_size m t i) ∙ h refl)
+pub size_refused : (wants : Bool) (t : Typed) (f : CompileFault) → (f ≡ compiling.S8 → is_too_large t.resolved.vars (term_of (kernel t.resolved.body)) ≡ true) → CellsAs Cells wants t (Err (compile_refusal f))
+size_refused wants t compiling.S8 h = λ m i. by_size refl (sym (same_size m t i) ∙ h refl)
 size_refused wants t compiling.NoMemory h = tt
 
 pub order_refused : (wants : Bool) (t : Typed) (a : Aif) (f : OrderFault) → is_too_large t.resolved.vars (term_of (kernel t.resolved.body)) ≡ false → compiled_in a ≡ compiled_typed t → IsFaultOf (all_defined a.cells) f
-    → CellsAs false wants t (Err (order_refusal f))
+    → CellsAs Cells wants t (Err (order_refusal f))
 order_refused wants t a (ordering.Cycle cells p) l e c =
-    λ m i. by_cycle cells.items p (sym (same_size m t i) ∙ l) (subst (λ (ds : List Defined). IsCycleAt ds cells.items p) (ap (λ (d : Compiled). d.cells) (e ∙ same_compiled m t i)) c)
+    λ m i. by_cycle cells.items p refl (sym (same_size m t i) ∙ l) (subst (λ (ds : List Defined). IsCycleAt ds cells.items p) (ap (λ (d : Compiled). d.cells) (e ∙ same_compiled m t i)) c)
 order_refused wants t a ordering.NoMemory l e c = tt
 
 pub names_cells : (t : Typed) (a : Aif) → compiled_in a ≡ compiled_typed t → NamesCells (all_defined a.cells)
@@ -64,19 +64,11 @@ names_cells t a e =
 
 pub cells_built : (wants : Bool) (t : Typed) (b : Built) → is_too_large t.resolved.vars (term_of (kernel t.resolved.body)) ≡ false
     → b.aif.name ≡ t.resolved.name → b.aif.vars ≡ t.resolved.vars → b.aif.inputs ≡ input_count t.resolved.vars → compiled_in b.aif ≡ compiled_typed t
-    → HasNoCycle (all_defined b.aif.cells) → IsOrder (all_defined b.aif.cells) b.order.cells → AreWanted wants b.aif b.pairs → CellsAs false wants t (Ok b)
+    → HasNoCycle (all_defined b.aif.cells) → IsOrder (all_defined b.aif.cells) b.order.cells → AreWanted wants b.aif b.pairs → CellsAs Cells wants t (Ok b)
 cells_built wants t b l n v k e c o w = λ m i. (good m i, parts m i)
   where
-    good : (m : ModuleTree) → IsTypedOf m t → HasGoodCells false m
-    good m i =
-        record {
-          fits = sym (same_size m t i) ∙ l;
-          acyclic = subst HasNoCycle (ap (λ (d : Compiled). d.cells) (e ∙ same_compiled m t i)) c;
-          tight = λ s. absurd (true_is_not_false (sym s));
-        }
-      where
-        true_is_not_false : true ≡ false → ⊥
-        true_is_not_false h = cc
+    good : (m : ModuleTree) → IsTypedOf m t → CanRun m
+    good m i = record { fits = sym (same_size m t i) ∙ l; acyclic = subst HasNoCycle (ap (λ (d : Compiled). d.cells) (e ∙ same_compiled m t i)) c }
 
     sound : (m : ModuleTree) → IsTypedOf m t → IsSoundModule (resolved_vars m) (term_in m)
     sound m i = subst₂ (λ (vs : Vars) (body : Term). IsSoundModule vs body) i.vars_are (same_term m t i) (typed_is_sound t)
@@ -105,48 +97,49 @@ same_actions m a i = ap (λ (d : Compiled). d.actions) i.compiled_to
 place_at : (s : Scene) (acts : List Action) (j k : ℕ) (pair : IsLoosePair s acts j k) → place_of acts (j, k) ≡ later_place pair.first.place pair.second.place
 place_at s acts j k pair = ap₂ later_place (ap place_in pair.is_first) (ap place_in pair.is_second)
 
--- the least place that is told is the least of a loose pair
-least_told : (m : ModuleTree) (a : Aif) (told : Pairs) (p : Place) → IsAifOf m a → ArePairsOf a told → told.least ≡ Some p → IsLeastPlace m p
-least_told m a told p i w e = record { of_pair = of_pair; none_before = none_before }
+-- a list has the loose pairs of a module
+abbrev pub AreListed : ModuleTree → List (ℕ × ℕ) → Type 0
+AreListed m pairs = (i j : ℕ) → Contains pairs (i, j) ↔ IsLoosePair (scene_in m) (compiled_of m).actions i j
+
+-- the least place of the list is the least of a loose pair
+pub least_listed : (m : ModuleTree) (pairs : List (ℕ × ℕ)) (p : Place) → AreListed m pairs → least_place (map (place_of (compiled_of m).actions) pairs) ≡ Some p → IsLeastPlace m p
+least_listed m pairs p exact least = record { of_pair = of_pair; none_before = none_before }
   where
-    least : least_place (map (place_of a.actions) w.pairs) ≡ Some p
-    least = sym w.least ∙ e
-
-    moved : (j k : ℕ) → IsLoosePair (scene a) a.actions j k → IsLoosePair (scene_in m) (compiled_of m).actions j k
-    moved j k pair = subst₂ (λ (s : Scene) (acts : List Action). IsLoosePair s acts j k) (same_scene m a i) (same_actions m a i) pair
-
-    placed : (j k : ℕ) (pair : IsLoosePair (scene_in m) (compiled_of m).actions j k) → place_of a.actions (j, k) ≡ later_place pair.first.place pair.second.place
-    placed j k pair = ap (λ (acts : List Action). place_of acts (j, k)) (same_actions m a i) ∙ place_at (scene_in m) (compiled_of m).actions j k pair
-
     of_pair : IsPlaceOfPair m p
     of_pair =
-        let (pair, stands, here) = one_has_least (place_of a.actions) w.pairs p least in
-        let loose : IsLoosePair (scene_in m) (compiled_of m).actions pair.0 pair.1 = moved pair.0 pair.1 ((w.exact pair.0 pair.1).0 stands) in
-        record { i = pair.0; j = pair.1; pair = loose; later = sym (placed pair.0 pair.1 loose) ∙ here }
+        let (pair, stands, here) = one_has_least (place_of (compiled_of m).actions) pairs p least in
+        let loose : IsLoosePair (scene_in m) (compiled_of m).actions pair.0 pair.1 = (exact pair.0 pair.1).0 stands in
+        record { i = pair.0; j = pair.1; pair = loose; later = sym (place_at (scene_in m) (compiled_of m).actions pair.0 pair.1 loose) ∙ here }
 
     none_before : (q : Place) → IsPlaceOfPair m q → is_before q p ≡ false
     none_before q other =
-        let back : IsLoosePair (scene a) a.actions other.i other.j = subst₂ (λ (s : Scene) (acts : List Action). IsLoosePair s acts other.i other.j) (sym (same_scene m a i)) (sym (same_actions m a i)) other.pair in
-        let stands = (w.exact other.i other.j).1 back in
-        let before : is_before (place_of a.actions (other.i, other.j)) p ≡ false = none_before_least (place_of a.actions) w.pairs p (other.i, other.j) least stands in
-        subst (λ (z : Place). is_before z p ≡ false) (placed other.i other.j other.pair ∙ other.later) before
+        let stands = (exact other.i other.j).1 other.pair in
+        let before : is_before (place_of (compiled_of m).actions (other.i, other.j)) p ≡ false = none_before_least (place_of (compiled_of m).actions) pairs p (other.i, other.j) least stands in
+        subst (λ (z : Place). is_before z p ≡ false) (place_at (scene_in m) (compiled_of m).actions other.i other.j other.pair ∙ other.later) before
 
-pair_refused : (m : ModuleTree) (a : Aif) (told : Option Pairs) (wants : Bool) (p : Place) (strict : Bool) → IsAifOf m a → AreWanted wants a told → refused_pair strict told ≡ Some p → IsLeastPlace m p
-pair_refused m a (Some told) true p true i w e = least_told m a told p i w e
-pair_refused m a (Some told) false p true i w e = absurd w
-pair_refused m a (Some told) wants p false i w e = cc
-pair_refused m a None wants p true i w e = cc
-pair_refused m a None wants p false i w e = cc
+-- and without one there is no loose pair
+pub none_listed : (m : ModuleTree) (pairs : List (ℕ × ℕ)) → AreListed m pairs → least_place (map (place_of (compiled_of m).actions) pairs) ≡ None → HasNoPair m
+none_listed m pairs exact none = λ j k pair.
+    let empty : pairs ≡ [] = none_is_least (place_of (compiled_of m).actions) pairs none in
+    not_in_none (j, k) (subst (λ (ps : List (ℕ × ℕ)). Contains ps (j, k)) empty ((exact j k).1 pair))
+
+-- the pairs of a module's cells are listed, and their least place is told
+are_listed : (m : ModuleTree) (a : Aif) (told : Pairs) → IsAifOf m a → (w : ArePairsOf a told) → AreListed m w.pairs
+are_listed m a told i w = λ j k. subst₂ (λ (s : Scene) (acts : List Action). Contains w.pairs (j, k) ↔ IsLoosePair s acts j k) (same_scene m a i) (same_actions m a i) (w.exact j k)
+
+least_is_told : (m : ModuleTree) (a : Aif) (told : Pairs) → IsAifOf m a → (w : ArePairsOf a told) → told.least ≡ least_place (map (place_of (compiled_of m).actions) w.pairs)
+least_is_told m a told i w = w.least ∙ ap (λ (acts : List Action). least_place (map (place_of acts) w.pairs)) (same_actions m a i)
+
+pair_refused : (m : ModuleTree) (a : Aif) (told : Option Pairs) (wants : Bool) (p : Place) (scrutiny : Scrutiny) → IsAifOf m a → AreWanted wants a told → refused_pair scrutiny told ≡ Some p → IsLeastPlace m p
+pair_refused m a (Some told) true p Strict i w e = least_listed m w.pairs p (are_listed m a told i w) (sym (least_is_told m a told i w) ∙ e)
+pair_refused m a (Some told) false p Strict i w e = absurd w
+pair_refused m a None wants p Strict i w e = cc
+pair_refused m a told wants p Cells i w e = cc
+pair_refused m a told wants p Front i w e = cc
 
 -- where no pair is refused there is none
-none_loose : (m : ModuleTree) (a : Aif) (told : Option Pairs) (wants : Bool) → (true ≡ true → wants ≡ true) → IsAifOf m a → AreWanted wants a told → refused_pair true told ≡ None → HasNoPair m
-none_loose m a (Some told) true h i w e =
-    λ j k pair. no_pair j k (subst₂ (λ (s : Scene) (acts : List Action). IsLoosePair s acts j k) (sym (same_scene m a i)) (sym (same_actions m a i)) pair)
-  where
-    no_pair : (j k : ℕ) → IsLoosePair (scene a) a.actions j k → ⊥
-    no_pair j k pair =
-        let empty : w.pairs ≡ [] = none_is_least (place_of a.actions) w.pairs (sym w.least ∙ e) in
-        not_in_none (j, k) (subst (λ (ps : List (ℕ × ℕ)). Contains ps (j, k)) empty ((w.exact j k).1 pair))
+none_loose : (m : ModuleTree) (a : Aif) (told : Option Pairs) (wants : Bool) → (true ≡ true → wants ≡ true) → IsAifOf m a → AreWanted wants a told → refused_pair Strict told ≡ None → HasNoPair m
+none_loose m a (Some told) true h i w e = none_listed m w.pairs (are_listed m a told i w) (sym (least_is_told m a told i w) ∙ e)
 none_loose m a (Some told) false h i w e = absurd w
 none_loose m a None true h i w e = absurd w
 none_loose m a None false h i w e =
@@ -154,38 +147,60 @@ none_loose m a None false h i w e =
     cc
 
 -- what was built without refusing loose pairs, and allowed
-pub allowed_as : (strict wants : Bool) (t : Typed) (b : Built) (r : Result Built BuildFault) → (strict ≡ true → wants ≡ true) → CellsAs false wants t (Ok b) → AllowedAs strict b r → CellsAs strict wants t r
-allowed_as strict wants t b (Ok c) h cells k = subst (λ (d : Built). CellsAs strict wants t (Ok d)) (sym k.0) (λ m i. (tightened strict h k.1 m (cells m i).0 (cells m i).1, (cells m i).1))
+pub allowed_as : (strict wants : Bool) (t : Typed) (b : Built) (r : Result Built BuildFault) → (strict ≡ true → wants ≡ true) → CellsAs Cells wants t (Ok b) → AllowedAs (scrutiny_of strict) b r → CellsAs (scrutiny_of strict) wants t r
+allowed_as strict wants t b (Ok c) h cells k =
+    subst (λ (d : Built). CellsAs (scrutiny_of strict) wants t (Ok d)) (sym k.0) (λ m i. (tightened strict h k.1 m (cells m i).0 (cells m i).1, (cells m i).1))
   where
-    tightened : (s : Bool) → (s ≡ true → wants ≡ true) → refused_pair s b.pairs ≡ None → (m : ModuleTree) → HasGoodCells false m → ArePartsOf wants m b → HasGoodCells s m
-    tightened false g e m good parts = good
-    tightened true g e m good parts = record { fits = good.fits; acyclic = good.acyclic; tight = λ _. none_loose m b.aif b.pairs wants g parts.cells_are parts.pairs_are e }
+    tightened : (s : Bool) → (s ≡ true → wants ≡ true) → refused_pair (scrutiny_of s) b.pairs ≡ None → (m : ModuleTree) → CanRun m → ArePartsOf wants m b → HasGoodCells (scrutiny_of s) m
+    tightened false g e m run parts = run
+    tightened true g e m run parts = (run, none_loose m b.aif b.pairs wants g parts.cells_are parts.pairs_are e)
 allowed_as strict wants t b (Err (fault.Refused q p)) h cells k =
-    λ m i. subst (λ (r : ℕ). BreaksLate strict m r p) (sym k.0)
-    (by_pair p (cells m i).0.fits (cells m i).0.acyclic (is_strict strict k.1) (pair_refused m b.aif b.pairs wants p strict (cells m i).1.cells_are (cells m i).1.pairs_are k.1))
+    λ m i. subst (λ (r : ℕ). BreaksLate (scrutiny_of strict) m r p) (sym k.0)
+    (by_pair p (is_strict strict k.1) (cells m i).0 (pair_refused m b.aif b.pairs wants p (scrutiny_of strict) (cells m i).1.cells_are (cells m i).1.pairs_are k.1))
   where
-    is_strict : (s : Bool) → refused_pair s b.pairs ≡ Some p → s ≡ true
+    is_strict : (s : Bool) → refused_pair (scrutiny_of s) b.pairs ≡ Some p → scrutiny_of s ≡ Strict
     is_strict true e = refl
     is_strict false e = cc
 allowed_as strict wants t b (Err fault.NoMemory) h cells k = absurd k
 
+pub cells_judged : (strict : Bool) → judges_cells (scrutiny_of strict) ≡ true
+cells_judged true = refl
+cells_judged false = refl
+
 -- a refusal for size or for a cycle doesn't ask whether loose pairs are refused
-refused_alike : (strict : Bool) (m : ModuleTree) (r : ℕ) (p : Place) → BreaksLate false m r p → BreaksLate strict m r p
-refused_alike strict m r p (by_size l) = by_size l
-refused_alike strict m r p (by_cycle cycle _ l c) = by_cycle cycle p l c
-refused_alike strict m r p (by_pair _ l n s k) =
-    let never : false ≡ true = s in
+refused_alike : (strict : Bool) (m : ModuleTree) (r : ℕ) (p : Place) → BreaksLate Cells m r p → BreaksLate (scrutiny_of strict) m r p
+refused_alike strict m r p (by_size _ l) = by_size (cells_judged strict) l
+refused_alike strict m r p (by_cycle cycle _ _ l c) = by_cycle cycle p (cells_judged strict) l c
+refused_alike strict m r p (by_pair _ s run k) =
+    let never : Cells ≡ Strict = s in
     cc
 
-pub refused_as : (strict wants : Bool) (t : Typed) (f : BuildFault) → CellsAs false wants t (Err f) → CellsAs strict wants t (Err f)
+pub refused_as : (strict wants : Bool) (t : Typed) (f : BuildFault) → CellsAs Cells wants t (Err f) → CellsAs (scrutiny_of strict) wants t (Err f)
 refused_as strict wants t fault.NoMemory h = tt
 refused_as strict wants t (fault.Refused r p) h = λ m i. refused_alike strict m r p (h m i)
 
-pub built_as : (strict wants : Bool) (text : List ℕ) (t : Typed) (r : Result Built BuildFault) → FrontAs text (Ok t) → CellsAs strict wants t r → BuildsAs strict wants text r
-built_as strict wants text t (Ok b) (m, k, i) h = (m, record { typed = k; good = (h m i).0 }, (h m i).1)
-built_as strict wants text t (Err fault.NoMemory) (m, k, i) h = tt
-built_as strict wants text t (Err (fault.Refused r p)) (m, k, i) h = late text m r p k (h m i)
+pub built_as : (scrutiny : Scrutiny) (wants : Bool) (text : List ℕ) (t : Typed) (r : Result Built BuildFault) → FrontAs text (Ok t) → CellsAs scrutiny wants t r → BuildsAs scrutiny wants text r
+built_as scrutiny wants text t (Ok b) (m, k, i) h = (m, record { typed = k.typed; good = (h m i).0 }, (h m i).1)
+built_as scrutiny wants text t (Err fault.NoMemory) (m, k, i) h = tt
+built_as scrutiny wants text t (Err (fault.Refused r p)) (m, k, i) h = late text m r p k.typed (h m i)
 
-pub front_refused : (strict wants : Bool) (text : List ℕ) (f : BuildFault) → FrontAs text (Err f) → BuildsAs strict wants text (Err f)
-front_refused strict wants text fault.NoMemory h = tt
-front_refused strict wants text (fault.Refused r p) h = early text r p h
+-- no rule on cells is asked of a front
+none_late : (m : ModuleTree) (r : ℕ) (p : Place) → BreaksLate Front m r p → ⊥
+none_late m r p (by_size j _) =
+    let never : false ≡ true = j in
+    cc
+none_late m r p (by_cycle _ _ j _ _) =
+    let never : false ≡ true = j in
+    cc
+none_late m r p (by_pair _ s _ _) =
+    let never : Front ≡ Strict = s in
+    cc
+
+-- so a front is refused by one of the first rules
+breaks_early : (text : List ℕ) (r : ℕ) (p : Place) → Refuses Front text r p → BreaksEarly text r p
+breaks_early text r p (early _ _ _ b) = b
+breaks_early text r p (late _ m _ _ _ b) = absurd (none_late m r p b)
+
+pub front_refused : (scrutiny : Scrutiny) (wants : Bool) (text : List ℕ) (f : BuildFault) → FrontAs text (Err f) → BuildsAs scrutiny wants text (Err f)
+front_refused scrutiny wants text fault.NoMemory h = tt
+front_refused scrutiny wants text (fault.Refused r p) h = early text r p (breaks_early text r p h)

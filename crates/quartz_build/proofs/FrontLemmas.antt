@@ -23,18 +23,18 @@ use Rattle.quartz_types.specs.declared.typed.Typed.{Typed}
 use Rattle.quartz_types.specs.Rules.{first_break, with_rule}
 use Rattle.quartz_build.specs.declared.fault.BuildFault.{BuildFault}
 use Rattle.quartz_build.specs.declared.fault.BuildFault.TheVariants as fault
-use Rattle.quartz_build.specs.Broken.{BreaksEarly, by_tokens, by_grammar, by_rule, IsTextOf, typing_refusal, refusal_of, unbuilt}
+use Rattle.quartz_build.specs.Broken.{by_tokens, by_grammar, by_rule, early, IsTextOf, typing_refusal, refusal_of, unbuilt}
 use Rattle.quartz_build.specs.Parts.{CheckedAs, FrontAs, IsTypedOf, JudgedAs}
 use Rattle.quartz_build.specs.Refusals.{lex_refusal, names_refusal, parse_refusal, types_refusal}
 
 pub tokens_refused : (text : List ℕ) (f : LexFault) → ((p : Place) → f ≡ lexing.S1 p → Breaks text p) → FrontAs text (Err (lex_refusal f))
-tokens_refused text (lexing.S1 p) h = by_tokens text p (h p refl)
+tokens_refused text (lexing.S1 p) h = early text 1 p (by_tokens text p (h p refl))
 tokens_refused text lexing.NoMemory h = tt
 
 pub grammar_refused : (text : List ℕ) (tokens : Tokens) (f : ParseFault) → AreTokensOf text tokens
     → ((p : Place) → f ≡ parsing.S2 p → Stops HasText (lexemes text tokens.items.items) tokens.end p) → FrontAs text (Err (parse_refusal f))
 grammar_refused text tokens (parsing.S2 p) t h =
-    by_grammar text (lexemes text tokens.items.items) p t.lexed (subst (λ (e : Place). Stops HasText (lexemes text tokens.items.items) e p) t.end (h p refl))
+    early text 2 p (by_grammar text (lexemes text tokens.items.items) p t.lexed (subst (λ (e : Place). Stops HasText (lexemes text tokens.items.items) e p) t.end (h p refl)))
 grammar_refused text tokens parsing.NoMemory t h = tt
 
 pub types_refused : (resolved : Resolved) (f : TypeFault) → ((r : ℕ) (p : Place) → f ≡ typing.Rule r p → first_break resolved.vars (kernel resolved.body) ≡ Some (r, p)) → CheckedAs resolved (Err (types_refusal f))
@@ -87,10 +87,13 @@ pub front_as : (text : List ℕ) (tokens : Tokens) (ms : List ModuleTree) (r : R
 front_as text tokens ms (Ok typed) t d (m, e, k, i) = (
   m,
   record {
-    read = record { tokens = lexemes text tokens.items.items; lexes = t.lexed; derives = subst (DerivesText (lexemes text tokens.items.items)) e d };
-    unbroken = k;
+    typed = record {
+      read = record { tokens = lexemes text tokens.items.items; lexes = t.lexed; derives = subst (DerivesText (lexemes text tokens.items.items)) e d };
+      unbroken = k;
+    };
+    good = tt;
   },
   i,
 )
 front_as text tokens ms (Err fault.NoMemory) t d h = tt
-front_as text tokens ms (Err (fault.Refused r p)) t d h = by_rule text ms r p (record { tokens = lexemes text tokens.items.items; lexes = t.lexed; derives = d }) h
+front_as text tokens ms (Err (fault.Refused r p)) t d h = early text r p (by_rule text ms r p (record { tokens = lexemes text tokens.items.items; lexes = t.lexed; derives = d }) h)

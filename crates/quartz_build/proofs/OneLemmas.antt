@@ -8,7 +8,7 @@ use Rattle.quartz_parser.specs.Parsing.{DerivesText, HasText, Breaks as Stops}
 use Rattle.quartz_parser.proofs.Agreement.{one_text}
 use Rattle.aif_cells.specs.Built.{Defined}
 use Rattle.causality_check.specs.Order.{HasNoCycle, IsCycleAt}
-use Rattle.quartz_build.specs.Broken.{BreaksEarly, by_tokens, by_grammar, by_rule, BreaksLate, by_size, by_cycle, by_pair, HasGoodCells, IsAccepted, IsTextOf, IsWellTyped, Refuses, early, late, IsLeastPlace, compiled_of, refusal_of}
+use Rattle.quartz_build.specs.Broken.{BreaksEarly, by_tokens, by_grammar, by_rule, BreaksLate, by_size, by_cycle, by_pair, CanRun, HasGoodCells, IsAccepted, IsTextOf, IsWellTyped, Refuses, early, late, IsLeastPlace, Scrutiny, Front, Cells, Strict, judges_cells, compiled_of, refusal_of}
 use Rattle.quartz_build.proofs.LeastLemmas.{same_place}
 
 same_tokens : (text : List ℕ) (ls ms : List Lexeme) → Lexes text ls → Lexes text ms → ls ≡ ms
@@ -85,37 +85,47 @@ not_both : (b : Bool) → b ≡ false → b ≡ true → ⊥
 not_both b f t = cc
 
 -- a module's cells break one rule, at one place
-one_late : (strict : Bool) (m : ModuleTree) (r s : ℕ) (p q : Place) → BreaksLate strict m r p → BreaksLate strict m s q → (r ≡ s) × (p ≡ q)
-one_late strict m r s p q (by_size a) (by_size b) = (refl, refl)
-one_late strict m r s p q (by_size a) (by_cycle c _ l d) = absurd (not_both _ l a)
-one_late strict m r s p q (by_size a) (by_pair _ l n i k) = absurd (not_both _ l a)
-one_late strict m r s p q (by_cycle c _ l d) (by_size b) = absurd (not_both _ l b)
-one_late strict m r s p q (by_cycle c _ l d) (by_cycle e _ k f) = (refl, same_start (compiled_of m).cells c e p q d f)
-one_late strict m r s p q (by_cycle c _ l d) (by_pair _ k n i j) = absurd (not_on_cycle (compiled_of m).cells c p n d)
-one_late strict m r s p q (by_pair _ l n i k) (by_size b) = absurd (not_both _ l b)
-one_late strict m r s p q (by_pair _ l n i k) (by_cycle c _ j d) = absurd (not_on_cycle (compiled_of m).cells c q n d)
-one_late strict m r s p q (by_pair _ l n i k) (by_pair _ d e f g) = (refl, same_least m p q k g)
+one_late : (scrutiny : Scrutiny) (m : ModuleTree) (r s : ℕ) (p q : Place) → BreaksLate scrutiny m r p → BreaksLate scrutiny m s q → (r ≡ s) × (p ≡ q)
+one_late scrutiny m r s p q (by_size _ a) (by_size _ b) = (refl, refl)
+one_late scrutiny m r s p q (by_size _ a) (by_cycle c _ _ l d) = absurd (not_both _ l a)
+one_late scrutiny m r s p q (by_size _ a) (by_pair _ _ run k) = absurd (not_both _ run.fits a)
+one_late scrutiny m r s p q (by_cycle c _ _ l d) (by_size _ b) = absurd (not_both _ l b)
+one_late scrutiny m r s p q (by_cycle c _ _ l d) (by_cycle e _ _ k f) = (refl, same_start (compiled_of m).cells c e p q d f)
+one_late scrutiny m r s p q (by_cycle c _ _ l d) (by_pair _ _ run k) = absurd (not_on_cycle (compiled_of m).cells c p run.acyclic d)
+one_late scrutiny m r s p q (by_pair _ _ run k) (by_size _ b) = absurd (not_both _ run.fits b)
+one_late scrutiny m r s p q (by_pair _ _ run k) (by_cycle c _ _ l d) = absurd (not_on_cycle (compiled_of m).cells c q run.acyclic d)
+one_late scrutiny m r s p q (by_pair _ _ run k) (by_pair _ _ other g) = (refl, same_least m p q k g)
 
--- and good ones none
-no_late : (strict : Bool) (m : ModuleTree) (r : ℕ) (p : Place) → HasGoodCells strict m → BreaksLate strict m r p → ⊥
-no_late strict m r p g (by_size a) = not_both _ g.fits a
-no_late strict m r p g (by_cycle c _ l d) = not_on_cycle (compiled_of m).cells c p g.acyclic d
-no_late strict m r p g (by_pair _ l n i k) = g.tight i k.of_pair.i k.of_pair.j k.of_pair.pair
+-- good cells that are judged can run
+pub good_can_run : (scrutiny : Scrutiny) (m : ModuleTree) → judges_cells scrutiny ≡ true → HasGoodCells scrutiny m → CanRun m
+good_can_run Front m j g =
+    let never : false ≡ true = j in
+    cc
+good_can_run Cells m j g = g
+good_can_run Strict m j g = g.0
+
+-- and break no rule
+no_late : (scrutiny : Scrutiny) (m : ModuleTree) (r : ℕ) (p : Place) → HasGoodCells scrutiny m → BreaksLate scrutiny m r p → ⊥
+no_late scrutiny m r p g (by_size j a) = not_both _ (good_can_run scrutiny m j g).fits a
+no_late scrutiny m r p g (by_cycle c _ j l d) = not_on_cycle (compiled_of m).cells c p (good_can_run scrutiny m j g).acyclic d
+no_late scrutiny m r p g (by_pair _ e run k) =
+    let strict : HasGoodCells Strict m = subst (λ (s : Scrutiny). HasGoodCells s m) e g in
+    strict.1 k.of_pair.i k.of_pair.j k.of_pair.pair
 
 -- ---- the whole
 
 -- a text is refused by one rule at one place
-pub one_refusal : (strict : Bool) (text : List ℕ) (r s : ℕ) (p q : Place) → Refuses strict text r p → Refuses strict text s q → (r ≡ s) × (p ≡ q)
-one_refusal strict text r s p q (early _ _ _ a) (early _ _ _ b) = one_early text r s p q a b
-one_refusal strict text r s p q (early _ _ _ a) (late _ m _ _ k b) = absurd (no_early text m r p k a)
-one_refusal strict text r s p q (late _ m _ _ k a) (early _ _ _ b) = absurd (no_early text m s q k b)
-one_refusal strict text r s p q (late _ m _ _ k a) (late _ n _ _ l b) = one_late strict n r s p q (subst (λ (o : ModuleTree). BreaksLate strict o r p) (one_typed text m n k l) a) b
+pub one_refusal : (scrutiny : Scrutiny) (text : List ℕ) (r s : ℕ) (p q : Place) → Refuses scrutiny text r p → Refuses scrutiny text s q → (r ≡ s) × (p ≡ q)
+one_refusal scrutiny text r s p q (early _ _ _ a) (early _ _ _ b) = one_early text r s p q a b
+one_refusal scrutiny text r s p q (early _ _ _ a) (late _ m _ _ k b) = absurd (no_early text m r p k a)
+one_refusal scrutiny text r s p q (late _ m _ _ k a) (early _ _ _ b) = absurd (no_early text m s q k b)
+one_refusal scrutiny text r s p q (late _ m _ _ k a) (late _ n _ _ l b) = one_late scrutiny n r s p q (subst (λ (o : ModuleTree). BreaksLate scrutiny o r p) (one_typed text m n k l) a) b
 
 -- and none that is accepted
-pub not_refused : (strict : Bool) (text : List ℕ) (m : ModuleTree) (r : ℕ) (p : Place) → IsAccepted strict text m → Refuses strict text r p → ⊥
-not_refused strict text m r p k (early _ _ _ a) = no_early text m r p k.typed a
-not_refused strict text m r p k (late _ n _ _ l a) = no_late strict m r p k.good (subst (λ (o : ModuleTree). BreaksLate strict o r p) (one_typed text n m l k.typed) a)
+pub not_refused : (scrutiny : Scrutiny) (text : List ℕ) (m : ModuleTree) (r : ℕ) (p : Place) → IsAccepted scrutiny text m → Refuses scrutiny text r p → ⊥
+not_refused scrutiny text m r p k (early _ _ _ a) = no_early text m r p k.typed a
+not_refused scrutiny text m r p k (late _ n _ _ l a) = no_late scrutiny m r p k.good (subst (λ (o : ModuleTree). BreaksLate scrutiny o r p) (one_typed text n m l k.typed) a)
 
 -- an accepted text is one module
-pub one_module : (strict other : Bool) (text : List ℕ) (m n : ModuleTree) → IsAccepted strict text m → IsAccepted other text n → m ≡ n
-one_module strict other text m n a b = one_typed text m n a.typed b.typed
+pub one_module : (scrutiny other : Scrutiny) (text : List ℕ) (m n : ModuleTree) → IsAccepted scrutiny text m → IsAccepted other text n → m ≡ n
+one_module scrutiny other text m n a b = one_typed text m n a.typed b.typed

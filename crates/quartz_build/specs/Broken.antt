@@ -13,6 +13,24 @@ use Rattle.statement_cells.specs.Whole.{Compiled, compiled}
 use Rattle.surface_depth.specs.Compiling.{is_too_large}
 use Rattle.write_conflicts.specs.Loose.{Scene, IsLoosePair, later_place}
 
+-- ---- how far a text is judged
+
+-- by the rules S1 to S7 on its front, which is the text, its names and its kinds; by S8 and S9 on its cells too; and strictly, which
+-- is by S10 as well, so that loose pairs of writes are refused
+pub data Scrutiny : Type 0 where
+  Front : Scrutiny
+  Cells : Scrutiny
+  Strict : Scrutiny
+
+abbrev pub judges_cells : Scrutiny → Bool
+judges_cells Front = false
+judges_cells _ = true
+
+-- how far a text is judged of which cells are built
+abbrev pub scrutiny_of : (is_strict : Bool) → Scrutiny
+scrutiny_of true = Strict
+scrutiny_of false = Cells
+
 -- ---- the text and its kinds
 
 -- the text has these modules
@@ -75,32 +93,36 @@ pub record IsLeastPlace (m : ModuleTree) (p : Place) : Type 0 where
   pub of_pair : IsPlaceOfPair m p
   pub none_before : (q : Place) → IsPlaceOfPair m q → is_before q p ≡ false
 
--- a module is refused for its cells: S8 where they are too many; else S9 where they have a cycle, at the place of its first cell;
--- else, where loose pairs of writes are refused, S10 at the least place of one
-pub data BreaksLate (is_strict : Bool) (m : ModuleTree) : (rule : ℕ) → Place → Type 0 where
-  by_size : is_too_large (resolved_vars m) (term_in m) ≡ true → BreaksLate is_strict m 8 origin
-  by_cycle : (cycle : List ℕ) (p : Place) → is_too_large (resolved_vars m) (term_in m) ≡ false → IsCycleAt (compiled_of m).cells cycle p → BreaksLate is_strict m 9 p
-  by_pair : (p : Place) → is_too_large (resolved_vars m) (term_in m) ≡ false → HasNoCycle (compiled_of m).cells → is_strict ≡ true
-      → IsLeastPlace m p → BreaksLate is_strict m 10 p
+-- the cells of a module are not too many, and they have no cycle
+pub record CanRun (m : ModuleTree) : Type 0 where
+  pub fits : is_too_large (resolved_vars m) (term_in m) ≡ false
+  pub acyclic : HasNoCycle (compiled_of m).cells
 
 -- a module has no loose pair of writes
 abbrev pub HasNoPair : ModuleTree → Type 0
 HasNoPair m = (i j : ℕ) → ¬ IsLoosePair (scene_in m) (compiled_of m).actions i j
 
+-- a module is refused for its cells: S8 where they are too many; else S9 where they have a cycle, at the place of its first cell;
+-- else, judged strictly, S10 at the least place of a loose pair
+pub data BreaksLate (scrutiny : Scrutiny) (m : ModuleTree) : (rule : ℕ) → Place → Type 0 where
+  by_size : judges_cells scrutiny ≡ true → is_too_large (resolved_vars m) (term_in m) ≡ true → BreaksLate scrutiny m 8 origin
+  by_cycle : (cycle : List ℕ) (p : Place) → judges_cells scrutiny ≡ true → is_too_large (resolved_vars m) (term_in m) ≡ false → IsCycleAt (compiled_of m).cells cycle p → BreaksLate scrutiny m 9 p
+  by_pair : (p : Place) → scrutiny ≡ Strict → CanRun m → IsLeastPlace m p → BreaksLate scrutiny m 10 p
+
 -- and it breaks none of these rules
-pub record HasGoodCells (is_strict : Bool) (m : ModuleTree) : Type 0 where
-  pub fits : is_too_large (resolved_vars m) (term_in m) ≡ false
-  pub acyclic : HasNoCycle (compiled_of m).cells
-  pub tight : is_strict ≡ true → HasNoPair m
+abbrev pub HasGoodCells : Scrutiny → ModuleTree → Type 0
+HasGoodCells Front m = Unit {0}
+HasGoodCells Cells m = CanRun m
+HasGoodCells Strict m = CanRun m × HasNoPair m
 
 -- ---- the whole
 
--- the text is refused by this rule at this place, the first that it breaks. S10 counts only where loose pairs are refused
-pub data Refuses (is_strict : Bool) : List ℕ → (rule : ℕ) → Place → Type 0 where
-  early : (text : List ℕ) (r : ℕ) (p : Place) → BreaksEarly text r p → Refuses is_strict text r p
-  late : (text : List ℕ) (m : ModuleTree) (r : ℕ) (p : Place) → IsWellTyped text m → BreaksLate is_strict m r p → Refuses is_strict text r p
+-- the text is refused by this rule at this place, the first that it breaks of those by which it is judged
+pub data Refuses (scrutiny : Scrutiny) : List ℕ → (rule : ℕ) → Place → Type 0 where
+  early : (text : List ℕ) (r : ℕ) (p : Place) → BreaksEarly text r p → Refuses scrutiny text r p
+  late : (text : List ℕ) (m : ModuleTree) (r : ℕ) (p : Place) → IsWellTyped text m → BreaksLate scrutiny m r p → Refuses scrutiny text r p
 
--- the text is this one module, which breaks no rule
-pub record IsAccepted (is_strict : Bool) (text : List ℕ) (source : ModuleTree) : Type 0 where
+-- the text is this one module, which breaks none of the rules by which it is judged
+pub record IsAccepted (scrutiny : Scrutiny) (text : List ℕ) (source : ModuleTree) : Type 0 where
   pub typed : IsWellTyped text source
-  pub good : HasGoodCells is_strict source
+  pub good : HasGoodCells scrutiny source

@@ -19,7 +19,7 @@ use Rattle.write_conflicts.specs.Pairs.{ArePairsOf}
 use Rattle.quartz_build.specs.declared.fault.BuildFault.{BuildFault}
 use Rattle.quartz_build.specs.declared.fault.BuildFault.TheVariants.{Refused, NoMemory}
 use Rattle.quartz_build.specs.declared.building.Built.{Built}
-use Rattle.quartz_build.specs.Broken.{BreaksEarly, BreaksLate, HasGoodCells, IsAccepted, IsWellTyped, Refuses, compiled_of, refusal_of, typing_refusal, term_in}
+use Rattle.quartz_build.specs.Broken.{BreaksLate, Front, HasGoodCells, IsAccepted, Refuses, Scrutiny, Strict, compiled_of, refusal_of, typing_refusal, term_in}
 
 -- the typed module is that of the tree: its name, its variables and its body
 pub record IsTypedOf (m : ModuleTree) (t : Typed) : Type 0 where
@@ -49,15 +49,15 @@ pub record ArePartsOf (wants_pairs : Bool) (m : ModuleTree) (built : Built) : Ty
 
 -- what the front of a text answers: its only module, typed, or the first of the rules S1 to S7 that the text breaks
 abbrev pub FrontAs : List ℕ → Result Typed BuildFault → Type 0
-FrontAs text (Ok typed) = (m : ModuleTree) × IsWellTyped text m × IsTypedOf m typed
-FrontAs text (Err (Refused rule place)) = BreaksEarly text rule place
+FrontAs text (Ok typed) = (m : ModuleTree) × IsAccepted Front text m × IsTypedOf m typed
+FrontAs text (Err (Refused rule place)) = Refuses Front text rule place
 FrontAs text (Err NoMemory) = Unit {0}
 
 -- what the build of a text answers: the parts of its only module, or the first rule that the text breaks
-abbrev pub BuildsAs : (is_strict wants_pairs : Bool) → List ℕ → Result Built BuildFault → Type 0
-BuildsAs is_strict wants_pairs text (Ok built) = (m : ModuleTree) × IsAccepted is_strict text m × ArePartsOf wants_pairs m built
-BuildsAs is_strict wants_pairs text (Err (Refused rule place)) = Refuses is_strict text rule place
-BuildsAs is_strict wants_pairs text (Err NoMemory) = Unit {0}
+abbrev pub BuildsAs : Scrutiny → (wants_pairs : Bool) → List ℕ → Result Built BuildFault → Type 0
+BuildsAs scrutiny wants_pairs text (Ok built) = (m : ModuleTree) × IsAccepted scrutiny text m × ArePartsOf wants_pairs m built
+BuildsAs scrutiny wants_pairs text (Err (Refused rule place)) = Refuses scrutiny text rule place
+BuildsAs scrutiny wants_pairs text (Err NoMemory) = Unit {0}
 
 -- ---- between the steps
 
@@ -74,18 +74,18 @@ CheckedAs resolved (Err (Refused rule place)) = first_break resolved.vars (kerne
 CheckedAs resolved (Err NoMemory) = Unit {0}
 
 -- what building the cells of a typed module answers
-abbrev pub CellsAs : (is_strict wants_pairs : Bool) → Typed → Result Built BuildFault → Type 0
-CellsAs is_strict wants_pairs typed (Ok built) = (m : ModuleTree) → IsTypedOf m typed → HasGoodCells is_strict m × ArePartsOf wants_pairs m built
-CellsAs is_strict wants_pairs typed (Err (Refused rule place)) = (m : ModuleTree) → IsTypedOf m typed → BreaksLate is_strict m rule place
-CellsAs is_strict wants_pairs typed (Err NoMemory) = Unit {0}
+abbrev pub CellsAs : Scrutiny → (wants_pairs : Bool) → Typed → Result Built BuildFault → Type 0
+CellsAs scrutiny wants_pairs typed (Ok built) = (m : ModuleTree) → IsTypedOf m typed → HasGoodCells scrutiny m × ArePartsOf wants_pairs m built
+CellsAs scrutiny wants_pairs typed (Err (Refused rule place)) = (m : ModuleTree) → IsTypedOf m typed → BreaksLate scrutiny m rule place
+CellsAs scrutiny wants_pairs typed (Err NoMemory) = Unit {0}
 
 -- the place at which loose pairs are refused
-abbrev pub refused_pair : (is_strict : Bool) → Option Pairs → Option Place
-refused_pair true (Some told) = told.least
+abbrev pub refused_pair : Scrutiny → Option Pairs → Option Place
+refused_pair Strict (Some told) = told.least
 refused_pair _ _ = None
 
 -- what was built is allowed but where its loose pairs are refused
-abbrev pub AllowedAs : (is_strict : Bool) → Built → Result Built BuildFault → Type 0
-AllowedAs is_strict built (Ok allowed) = (allowed ≡ built) × (refused_pair is_strict built.pairs ≡ None)
-AllowedAs is_strict built (Err (Refused rule place)) = (rule ≡ 10) × (refused_pair is_strict built.pairs ≡ Some place)
-AllowedAs is_strict built (Err NoMemory) = ⊥
+abbrev pub AllowedAs : Scrutiny → Built → Result Built BuildFault → Type 0
+AllowedAs scrutiny built (Ok allowed) = (allowed ≡ built) × (refused_pair scrutiny built.pairs ≡ None)
+AllowedAs scrutiny built (Err (Refused rule place)) = (rule ≡ 10) × (refused_pair scrutiny built.pairs ≡ Some place)
+AllowedAs scrutiny built (Err NoMemory) = ⊥

@@ -1,8 +1,9 @@
 //! The whole build of a text: its cells, their order and its loose pairs.
 
-ghost use Rattle.std.specs.Prelude.{◌≡◌, true, false, IfOk};
+ghost use Rattle.std.specs.Prelude.{◌≡◌, true, IfOk};
 ghost use Rattle.aif_cells.specs.Built.{all_defined};
 ghost use Rattle.aif_cells.specs.Order.{IsOrder};
+ghost use Rattle.quartz_build.specs.Broken.{Cells, scrutiny_of};
 ghost use Rattle.quartz_build.specs.Parts.{AreWanted, AllowedAs, BuildsAs, CellsAs, refused_pair};
 
 use crate::fault::BuildFault;
@@ -43,7 +44,7 @@ fn tell_pairs(
 
 // The cells of a typed module, their order and their loose pairs.
 fn build_typed(alloc: Global, typed: &Typed, wants_pairs: bool) -> Result<Built, BuildFault>
-    ensures { CellsAs false wants_pairs typed.now result }
+    ensures { CellsAs Cells wants_pairs typed.now result }
 {
     let aif = match compile(alloc, typed) {
         Ok(aif) => aif,
@@ -61,7 +62,7 @@ fn build_typed(alloc: Global, typed: &Typed, wants_pairs: bool) -> Result<Built,
 
 // The place at which loose pairs are refused, where they are.
 fn find_refused(pairs: &Option<Pairs>, is_strict: bool) -> Option<Place>
-    ensures { result ≡ refused_pair is_strict pairs.now }
+    ensures { result ≡ refused_pair (scrutiny_of is_strict) pairs.now }
 {
     match pairs {
         Some(pairs) if is_strict => pairs.least,
@@ -71,7 +72,7 @@ fn find_refused(pairs: &Option<Pairs>, is_strict: bool) -> Option<Place>
 
 // The module that was built, unless it has loose pairs and they are refused.
 fn allow(built: Built, is_strict: bool) -> Result<Built, BuildFault>
-    ensures { AllowedAs is_strict built result }
+    ensures { AllowedAs (scrutiny_of is_strict) built result }
 {
     match find_refused(&built.pairs, is_strict) {
         Some(place) => Err(BuildFault::Refused { rule: 10, place }),
@@ -87,7 +88,7 @@ fn build_strictly(
     is_strict: bool,
 ) -> Result<Built, BuildFault>
     requires { is_strict ≡ true → wants_pairs ≡ true }
-    ensures { CellsAs is_strict wants_pairs typed.now result }
+    ensures { CellsAs (scrutiny_of is_strict) wants_pairs typed.now result }
 {
     match build_typed(alloc, typed, wants_pairs) {
         Ok(built) => allow(built, is_strict),
@@ -105,7 +106,7 @@ pub fn build(
     is_strict: bool,
 ) -> Result<Built, BuildFault>
     requires { is_strict ≡ true → wants_pairs ≡ true }
-    ensures { BuildsAs is_strict wants_pairs text.now result }
+    ensures { BuildsAs (scrutiny_of is_strict) wants_pairs text.now result }
 {
     match front(alloc, text) {
         Ok(typed) => build_strictly(alloc, &typed, wants_pairs, is_strict),

@@ -28,7 +28,7 @@ use Rattle.loose_runs.specs.Laws.{FlaggedAt, IsFlagged}
 use Rattle.loose_runs.specs.Reached.{Reached, at_start, by_step}
 use Rattle.loose_runs.proofs.FaultLemmas.{least_in}
 use Rattle.loose_runs.proofs.RunLooseLemmas.{loose_meets_conflict, unflagged_has_no_conflict}
-use Rattle.quartz_build.specs.Broken.{IsAccepted, term_in}
+use Rattle.quartz_build.specs.Broken.{IsAccepted, Strict, term_in}
 use Rattle.quartz_build.specs.Parts.{IsAifOf}
 use Rattle.text_laws.specs.Conflicts.{StoriesEndFlagged, StrictStepsHaveNoConflict, StrictStoriesHaveNoConflict, UntoldHasNoConflict}
 use Rattle.text_laws.proofs.VerdictLemmas.{well_typed_is_sound}
@@ -74,17 +74,17 @@ pub stories_end_flagged : StoriesEndFlagged
 stories_end_flagged text m trace greatest written k f accepted h c =
     story_flagged (resolved_vars m) (resolved_body m) (well_typed_is_sound text m accepted.typed) accepted.good.acyclic greatest trace written k f h c
 
--- ---- where loose pairs are refused
+-- ---- texts that are accepted strictly
 
-no_flagged : (text : List ℕ) (m : ModuleTree) (p : Place) → IsAccepted true text m → FlaggedAt (resolved_vars m) (term_in m) p → ⊥
-no_flagged text m p accepted a = accepted.good.tight refl a.flagged.i a.flagged.j a.flagged.pair
+no_flagged : (text : List ℕ) (m : ModuleTree) (p : Place) → IsAccepted Strict text m → FlaggedAt (resolved_vars m) (term_in m) p → ⊥
+no_flagged text m p accepted a = accepted.good.1 a.flagged.i a.flagged.j a.flagged.pair
 
 pub strict_steps_have_no_conflict : StrictStepsHaveNoConflict
 strict_steps_have_no_conflict text m s ins outs next fs f accepted run c k =
     no_flagged text m f.place accepted
-    (loose_meets_conflict (resolved_vars m) (resolved_body m) s ins outs next fs f (well_typed_is_sound text m accepted.typed) accepted.good.acyclic run c k)
+    (loose_meets_conflict (resolved_vars m) (resolved_body m) s ins outs next fs f (well_typed_is_sound text m accepted.typed) accepted.good.0.acyclic run c k)
 
 pub strict_stories_have_no_conflict : StrictStoriesHaveNoConflict
 strict_stories_have_no_conflict text m trace greatest written k f accepted h c =
     no_flagged text m f.place accepted
-    (story_flagged (resolved_vars m) (resolved_body m) (well_typed_is_sound text m accepted.typed) accepted.good.acyclic greatest trace written k f h c)
+    (story_flagged (resolved_vars m) (resolved_body m) (well_typed_is_sound text m accepted.typed) accepted.good.0.acyclic greatest trace written k f h c)

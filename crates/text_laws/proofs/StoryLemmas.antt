@@ -35,7 +35,7 @@ use Rattle.trace_io.specs.Story.{End, done, bad, limit, fault, StoryFrom, by_inp
 use Rattle.trace_io.specs.Writing.{line_of}
 use Rattle.cell_run.proofs.InputLemmas.{AreStepsOf, have_zero, steps_are}
 use Rattle.cell_run.proofs.TypedLemmas.{inputs_are}
-use Rattle.quartz_build.specs.Broken.{IsAccepted}
+use Rattle.quartz_build.specs.Broken.{Cells, IsAccepted}
 use Rattle.text_laws.specs.Stories.{StoriesAreOne, StoriesExist}
 use Rattle.text_laws.proofs.VerdictLemmas.{well_typed_is_sound}
 use Rattle.macro_steps.proofs.RunLemmas.{initial_listed, next_listed, none_least}
@@ -199,7 +199,7 @@ module _ (vs : Vars) (body : Kernel) (sound : IsSoundModule vs (term_of body)) (
   whole_exists trace = told_is_story 0 (initial vs body) (initial_values regs) (steps vs trace) stood_first (steps_are vs (lines trace) (have_zero vs types)) (omega arith)
 
 -- the cells of an accepted text have an order
-ordered : (text : List ℕ) (m : ModuleTree) → IsAccepted false text m → (order : List ℕ) × IsOrder (compiled (resolved_vars m) (term_of (resolved_body m))).cells order
+ordered : (text : List ℕ) (m : ModuleTree) → IsAccepted Cells text m → (order : List ℕ) × IsOrder (compiled (resolved_vars m) (term_of (resolved_body m))).cells order
 ordered text m accepted =
     let cells = (compiled (resolved_vars m) (term_of (resolved_body m))).cells in
     acyclic_has_order cells (compiled_names_before (resolved_vars m) (term_of (resolved_body m))).named accepted.good.acyclic

@@ -22,7 +22,7 @@ use Rattle.text_laws.specs.Verdicts.{CellsHaveOneText, TextsHaveOneVerdict, Well
 use Rattle.text_laws.proofs.CountLemmas.{variables_few}
 
 pub one_verdict : TextsHaveOneVerdict
-one_verdict strict text = record { one_refusal = one_refusal strict text; one_module = one_module strict strict text; not_both = not_refused strict text }
+one_verdict scrutiny text = record { one_refusal = one_refusal scrutiny text; one_module = one_module scrutiny scrutiny text; not_both = not_refused scrutiny text }
 
 -- ---- the text of cells
 

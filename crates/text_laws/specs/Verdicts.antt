@@ -1,23 +1,26 @@
 -- A text has one verdict at most, and what a module is compiled to one text.
-use Rattle.std.specs.Prelude.{◌≡◌, ℕ, Bool, List}
+use Rattle.std.specs.Prelude.{◌≡◌, ◌⊎◌, ℕ, List}
 use Rattle.quartz_tree.specs.declared.place.Place.{Place}
 use Rattle.quartz_tree.specs.Surfaces.{ModuleTree}
 use Rattle.quartz_names.specs.Resolving.{resolved_vars}
 use Rattle.aif_cells.specs.declared.aif.Aif.{Aif}
 use Rattle.aif_cells.specs.Text.{aif_text}
 use Rattle.statement_cells.specs.Meaning.{IsSoundModule}
-use Rattle.quartz_build.specs.Broken.{IsAccepted, IsWellTyped, Refuses, term_in}
+use Rattle.quartz_build.specs.Broken.{IsAccepted, IsWellTyped, Refuses, Scrutiny, term_in}
 use Rattle.quartz_build.specs.Parts.{IsAifOf}
 
--- with loose pairs refused or not, a text is refused by at most one rule at one place, or accepted as at most one module, and never
--- both
-pub record HasOneVerdict (is_strict : Bool) (text : List ℕ) : Type 0 where
-  pub one_refusal : (r s : ℕ) (p q : Place) → Refuses is_strict text r p → Refuses is_strict text s q → (r ≡ s) × (p ≡ q)
-  pub one_module : (m n : ModuleTree) → IsAccepted is_strict text m → IsAccepted is_strict text n → m ≡ n
-  pub not_both : (m : ModuleTree) (r : ℕ) (p : Place) → IsAccepted is_strict text m → ¬ Refuses is_strict text r p
+-- however far it is judged, a text is refused by at most one rule at one place, or accepted as at most one module, and never both
+pub record HasOneVerdict (scrutiny : Scrutiny) (text : List ℕ) : Type 0 where
+  pub one_refusal : (r s : ℕ) (p q : Place) → Refuses scrutiny text r p → Refuses scrutiny text s q → (r ≡ s) × (p ≡ q)
+  pub one_module : (m n : ModuleTree) → IsAccepted scrutiny text m → IsAccepted scrutiny text n → m ≡ n
+  pub not_both : (m : ModuleTree) (r : ℕ) (p : Place) → IsAccepted scrutiny text m → ¬ Refuses scrutiny text r p
 
 abbrev pub TextsHaveOneVerdict : Type 0
-TextsHaveOneVerdict = (is_strict : Bool) (text : List ℕ) → HasOneVerdict is_strict text
+TextsHaveOneVerdict = (scrutiny : Scrutiny) (text : List ℕ) → HasOneVerdict scrutiny text
+
+-- and it is accepted as some module, or refused by some rule at some place
+abbrev pub TextsHaveAVerdict : Type 0
+TextsHaveAVerdict = (scrutiny : Scrutiny) (text : List ℕ) → ((m : ModuleTree) × IsAccepted scrutiny text m) ⊎ ((r : ℕ) × (p : Place) × Refuses scrutiny text r p)
 
 -- whatever a module is compiled to has the same text
 abbrev pub CellsHaveOneText : Type 0

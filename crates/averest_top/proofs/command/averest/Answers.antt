@@ -1,6 +1,6 @@
 use Rattle.outside.specs.Bytes.{Rose}
 use Rattle.averest_top.specs.declared.task.Task.TheVariants as task
-use Rattle.averest_top.proofs.PromiseLemmas.{accepted_does, accepted_else, refused_exactly, run_outcome}
+use Rattle.averest_top.proofs.PromiseLemmas.{accepted_does, accepted_else, new_outcome, refused_exactly, run_outcome}
 use Rattle.averest_top.proofs.CompleteLemmas.{has_told}
 use Rattle.averest_top.proofs.ConflictLemmas.{accepted_anyhow, conflict_flagged, never_conflict}
 use Rattle.averest_top.proofs.command.averest.Goals as goal
@@ -37,3 +37,6 @@ pub returns-clause-tight : goal.returns-clause-tight
 returns-clause-tight g c = λ name text most m h tree trace a e k p s.
     never_conflict text tree trace most k p _ _ _ _ _ _ c.obey-status.result a
     (run_outcome text most _ _ _ _ _ _ _ c.obey-status.result (c.obey-status.ensures.of_text name text (task.Run most) m h) tree trace (accepted_anyhow text tree a) e) s
+
+pub returns-clause-convert : goal.returns-clause-convert
+returns-clause-convert g c = λ name text to m h tree trace a e. new_outcome text to _ _ _ _ _ _ _ c.obey-status.result (c.obey-status.ensures.of_text name text (task.Convert to) m h) tree trace a e

@@ -1,6 +1,6 @@
 use Rattle.std.proofs.Common.{inr}
-use Rattle.averest_top.proofs.TaskLemmas.{parts_execute, says_size, writes_cells}
-use Rattle.averest_top.proofs.EndLemmas.{load_ends, run_ends, written_ends}
+use Rattle.averest_top.proofs.TaskLemmas.{converts, parts_execute, says_size, writes_cells}
+use Rattle.averest_top.proofs.EndLemmas.{convert_ends, load_ends, run_ends, written_ends}
 use Rattle.averest_top.proofs.doing.do_task.Goals as goal
 
 pub returns-in-Run-clause-done : goal.returns-in-Run-clause-done
@@ -26,3 +26,12 @@ returns-in-Aif-clause-ends g c = written_ends c.args.task c.write_built.result c
 
 pub returns-in-Load-clause-ends : goal.returns-in-Load-clause-ends
 returns-in-Load-clause-ends g c = rw c.in-Load.is (load_ends c.in-Load.seed c.in-Load.steps c.load_built.result c.load_built.ensures.of_task c.load_built.ensures.no_read_fault)
+
+pub returns-in-Convert-clause-done : goal.returns-in-Convert-clause-done
+returns-in-Convert-clause-done g c = rw c.in-Convert.is (λ m p. converts _ m c.args.built.now _ _ _ _ _ _ _ c.convert_built.result p c.convert_built.ensures.done)
+
+pub returns-in-Convert-clause-of_task : goal.returns-in-Convert-clause-of_task
+returns-in-Convert-clause-of_task g c = (convert_ends c.in-Convert.to c.convert_built.result c.convert_built.ensures.ends).0
+
+pub returns-in-Convert-clause-ends : goal.returns-in-Convert-clause-ends
+returns-in-Convert-clause-ends g c = rw c.in-Convert.is ((convert_ends c.in-Convert.to c.convert_built.result c.convert_built.ensures.ends).1)

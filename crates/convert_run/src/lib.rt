@@ -1,0 +1,7 @@
+//! Traces of inputs read, and written anew in either format.
+#![tactic(auto)]
+
+mod room;
+mod running;
+
+pub use running::convert_trace;
